@@ -13,8 +13,8 @@ _osek_options() {
     partitions) echo '--help --in --explain --joined' ;;
     class) echo '--help --in --explain' ;;
     show) echo '--help --in --explain' ;;
-    bounds) echo '--help --in --explain --rules --apart --witness --into --witnesses --states --longest --upper --csv --json --limit --no-loss --no-refusal --progress' ;;
-    report) echo '--help --in --explain --output --rules --apart --states --longest --limit --no-loss --no-refusal --progress' ;;
+    bounds) echo '--help --in --explain --rules --apart --jitter --least --never --witness --into --witnesses --states --longest --upper --csv --json --limit --no-loss --no-refusal --progress' ;;
+    report) echo '--help --in --explain --output --rules --apart --jitter --least --never --states --longest --limit --no-loss --no-refusal --progress' ;;
     make) echo '--help --output --oil' ;;
     import) echo '--help --work --bend' ;;
   esac
@@ -48,7 +48,7 @@ _osek() {
       mapfile -t COMPREPLY < <(compgen -d -- "$word")
       return
       ;;
-    --from | --to | --rows | --limit | --apart | --witness | --states | --longest | --upper) return ;;
+    --from | --to | --rows | --limit | --apart | --jitter | --least | --never | --witness | --states | --longest | --upper) return ;;
   esac
   case $subcommand,$word in
     *,-*) mapfile -t COMPREPLY < <(compgen -W "$(_osek_options "$subcommand")" -- "$word") ;;

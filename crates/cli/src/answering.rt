@@ -64,7 +64,7 @@ fn write_answer<'q, O: Write, E: Write>(
             let asked = BoundsAsked {
                 request,
                 line,
-                said: rules.distances.as_slice(),
+                said: rules.said(),
                 limits: rules.limits(),
             };
             let mut watch = SearchWatch::new(progress);

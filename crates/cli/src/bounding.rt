@@ -6,7 +6,7 @@ use cli_answers::{StoredRun, Texts, Verdict, system_of, write_denial};
 use cli_report::write_report;
 use cli_requests::Rules;
 use cli_tables::{
-    BoundsAsked, SearchWatch, all_distances, distance_fault, mode_id, unknown_figure, write_found,
+    BoundsAsked, SearchWatch, all_rules, arriving_fault, mode_id, unknown_figure, write_found,
 };
 use osek_base::System;
 use partition_check::upper_only;
@@ -64,11 +64,11 @@ fn write_upper<'v, O: Write, E: Write>(
         return Ok(Verdict::NoLimit(name));
     }
     let mode = mode_id(alloc, texts, system, asked.line.mode)?;
-    let distances = all_distances(alloc, system, &rules.distances)?;
+    let arriving = all_rules(alloc, system, asked.said)?;
     let extent = extent_of(rules);
-    let found = find_upper_bounds(alloc, system, priority, mode, &distances, extent, watch)?;
+    let found = find_upper_bounds(alloc, system, priority, mode, &arriving, extent, watch)?;
     let UpperBounds { part, bounds } = found;
-    write_found(alloc, &part, mode, &distances, bounds, asked, runs, out)
+    write_found(alloc, &part, mode, &arriving, bounds, asked, runs, out)
 }
 
 /// Writes the bounds of all runs in a mode, as tables or as a page.
@@ -86,12 +86,12 @@ fn write_whole<'v, O: Write, E: Write>(
         return Ok(Verdict::NoLimit(name));
     }
     let mode = mode_id(alloc, texts, system, asked.line.mode)?;
-    let distances = all_distances(alloc, system, &rules.distances)?;
+    let arriving = all_rules(alloc, system, asked.said)?;
     let extent = extent_of(rules);
-    let found = find_bounds(alloc, system, mode, &distances, extent, watch)?;
+    let found = find_bounds(alloc, system, mode, &arriving, extent, watch)?;
     match asked.line.page {
-        Some(_) => write_report(alloc, texts, system, mode, &distances, found, asked, out),
-        None => write_found(alloc, system, mode, &distances, found, asked, runs, out),
+        Some(_) => write_report(alloc, texts, system, mode, &arriving, found, asked, out),
+        None => write_found(alloc, system, mode, &arriving, found, asked, runs, out),
     }
 }
 
@@ -106,8 +106,8 @@ fn write_asked<'v, O: Write, E: Write>(
     runs: &mut Vec<StoredRun>,
     out: &mut O,
 ) -> Result<Verdict<'v>, RunFault> {
-    if let Some(fault) = distance_fault(system, &rules.distances) {
-        return Ok(Verdict::NoDistance(fault));
+    if let Some(fault) = arriving_fault(system, asked.said) {
+        return Ok(Verdict::NoArriving(fault));
     }
     if let Some(wanted) = unknown_figure(system, asked.line) {
         return Ok(Verdict::NoFigure(wanted));

@@ -2,7 +2,7 @@
 
 use crate::inputs::{Texts, system_of};
 use crate::partitions::{Stretch, stretches};
-use crate::verdict::{DistanceFault, Verdict};
+use crate::verdict::{ArrivingFault, Verdict};
 use arrival_reader::IrqFault;
 use cli_requests::{Question, Request, RunLine, Wanted};
 use explain_systems::{explain_denial, explain_denials, explain_generation};
@@ -229,7 +229,7 @@ pub fn explain_verdict<E: Write>(
             let kinds = [Kind::Task, Kind::Isr];
             let _ = explain_word(alloc, request, texts, &kinds, *name, err);
         }
-        Verdict::NoDistance(DistanceFault::Unknown(name)) => {
+        Verdict::NoArriving(ArrivingFault::Unknown(_, name)) => {
             let _ = explain_word(alloc, request, texts, &[Kind::Isr], *name, err);
         }
         Verdict::NoFigure(wanted) => {

@@ -29,4 +29,4 @@ pub use partitions::{Stretch, stretches, write_cut, write_cuts, write_denial};
 pub use runs::{write_lines, write_view};
 pub use showing::write_shown;
 pub use storing::{StoredRun, is_free, store_runs};
-pub use verdict::{DistanceFault, Verdict, status_of};
+pub use verdict::{ArrivingFault, ArrivingWord, Verdict, status_of};

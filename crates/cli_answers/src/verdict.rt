@@ -6,20 +6,47 @@ use std::fmt;
 use std::io::{self, Write};
 use tracer::RunFault;
 
-/// What is wrong with a distance.
+/// What is said of how interrupts of a routine come.
 #[derive(Clone, Copy)]
-pub enum DistanceFault<'a> {
-    /// No routine has the name.
-    Unknown(&'a str),
-    /// The routine of that name has another one.
-    Twice(&'a str),
+pub enum ArrivingWord {
+    Apart,
+    Jitter,
+    Least,
+    Never,
 }
 
-impl fmt::Display for DistanceFault<'_> {
+impl ArrivingWord {
+    /// The word of the option.
+    fn word(self) -> &'static str {
+        match self {
+            ArrivingWord::Apart => "apart",
+            ArrivingWord::Jitter => "jitter",
+            ArrivingWord::Least => "least",
+            ArrivingWord::Never => "never",
+        }
+    }
+}
+
+/// What is wrong with what is said of how interrupts come.
+#[derive(Clone, Copy)]
+pub enum ArrivingFault<'a> {
+    /// No routine has the name.
+    Unknown(ArrivingWord, &'a str),
+    /// The same is said of the routine before.
+    Twice(ArrivingWord, &'a str),
+    /// A jitter is said of the routine, and no period.
+    Lone(&'a str),
+    /// The least distance of the routine is above its period.
+    Above(&'a str),
+}
+
+impl fmt::Display for ArrivingFault<'_> {
     fn fmt<W: fmt::Write>(&self, f: &mut fmt::Formatter<W>) -> fmt::Result {
         match self {
-            DistanceFault::Unknown(name) => write!(f, "apart: {name}"),
-            DistanceFault::Twice(name) => write!(f, "apart: {name} twice"),
+            ArrivingFault::Unknown(said, name) => write!(f, "{}: {name}", said.word()),
+            ArrivingFault::Twice(said, name) => write!(f, "{}: {name} twice", said.word()),
+            ArrivingFault::Lone(name) => write!(f, "jitter: {name} without apart"),
+            ArrivingFault::Above(name) => write!(f, "least: {name} above apart"),
         }
     }
 }
@@ -40,8 +67,8 @@ pub enum Verdict<'a> {
     NoLimit(&'a str),
     /// The system is shown: a line for each mistake.
     Warned(Vec<u8>),
-    /// A distance is wrong: nothing is written.
-    NoDistance(DistanceFault<'a>),
+    /// What is said of how interrupts come is wrong: nothing is written.
+    NoArriving(ArrivingFault<'a>),
     /// What a search found is written, and whether it has come to its end: a line for each remark.
     Searched { is_decided: bool, remarks: Vec<u8> },
     /// Bounds are written, and limits are broken: a line for each remark, and then for each limit.
@@ -63,7 +90,7 @@ impl Verdict<'_> {
             Verdict::NoLimit(name) => writeln!(err, "limit: {name}"),
             Verdict::Broken(lines) => err.write_all(lines.as_bytes()),
             Verdict::Warned(lines) => err.write_all(lines),
-            Verdict::NoDistance(fault) => writeln!(err, "{fault}"),
+            Verdict::NoArriving(fault) => writeln!(err, "{fault}"),
             Verdict::Witnessed(lines) => err.write_all(lines.as_bytes()),
             Verdict::NoFigure(wanted) => writeln!(err, "witness: {wanted}"),
             Verdict::NoWitness(wanted) => writeln!(err, "witness: {wanted}: no run is known"),
@@ -82,7 +109,7 @@ impl Verdict<'_> {
             Verdict::NoRow(_) => REFUSED,
             Verdict::Denied(..) | Verdict::AllDenied(..) => DENIED,
             Verdict::Broken(_) | Verdict::Exceeded { .. } => BROKEN,
-            Verdict::NoLimit(_) | Verdict::NoDistance(_) => REFUSED,
+            Verdict::NoLimit(_) | Verdict::NoArriving(_) => REFUSED,
             Verdict::NoFigure(_) | Verdict::NoWitness(_) => REFUSED,
             Verdict::Searched {
                 is_decided: true,

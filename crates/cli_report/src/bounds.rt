@@ -12,8 +12,8 @@ use tracer::RunFault;
 use view_figure_texts::measure_word;
 use view_measures::{Figure, KINDS, Kind};
 
-const DECIDED: &str = "<p>Ticks, or numbers of things, of all runs in which interrupts keep their
-<a href=\"#interrupts\">distances</a>, for programs that take exactly these ticks.
+const DECIDED: &str = "<p>Ticks, or numbers of things, of all runs in which interrupts come as
+<a href=\"#interrupts\">is said</a>, for programs that take exactly these ticks.
 <b class=\"reached\">7</b>: a run shows it, and none shows more.
 <b class=\"bound\">&lt;=7</b>: none shows more, and none is known that shows as much.
 <b class=\"above\">above</b>: nothing is promised.

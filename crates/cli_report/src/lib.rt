@@ -8,8 +8,8 @@
 #![tactic(auto)]
 
 mod bounds;
+mod coming;
 mod cuts;
-mod distances;
 mod heading;
 mod limits;
 mod output;

@@ -1,8 +1,8 @@
 //! The page, section by section.
 
 use crate::bounds::write_bounds;
+use crate::coming::write_coming;
 use crate::cuts::write_cuts;
-use crate::distances::write_distances;
 use crate::heading::{write_head, write_heading};
 use crate::limits::write_limits;
 use crate::pieces::{Piece, write_pieces};
@@ -10,6 +10,7 @@ use crate::report::Report;
 use crate::script::SCRIPT;
 use crate::system::write_system;
 use crate::worst_cases::write_worst_cases;
+use arrival_rules::ArrivalRule;
 use cli_answers::{Texts, Verdict};
 use cli_tables::{BoundsAsked, verdict_of};
 use osek_base::{ModeId, System};
@@ -25,11 +26,11 @@ fn findings_of(
     alloc: Global,
     system: &System,
     mode: ModeId,
-    distances: &[u32],
+    rules: &[ArrivalRule],
     bounds: Bounds,
 ) -> Result<Findings, AllocError> {
     match bounds.outcome {
-        Outcome::Decided(_) => Findings::of(alloc, system, mode, distances, bounds),
+        Outcome::Decided(_) => Findings::of(alloc, system, mode, rules, bounds),
         Outcome::Undecided(..) => Ok(Findings::untried(alloc, bounds)),
     }
 }
@@ -42,7 +43,7 @@ fn write_all_runs<O: Write>(
 ) -> Result<(), RunFault> {
     write_bounds(alloc, report, out)?;
     write_limits(alloc, report, out)?;
-    Ok(write_distances(report, out)?)
+    Ok(write_coming(report, out)?)
 }
 
 /// Writes the sections.
@@ -75,7 +76,7 @@ fn write_page<O: Write>(alloc: Global, report: &Report<'_>, out: &mut O) -> Resu
     Ok(write_end(out)?)
 }
 
-/// Writes the page of what a search for bounds in a mode, under distances, has found of a system.
+/// Writes the page of what a search for bounds in a mode, by rules of interrupts, has found of a system.
 /// The verdict tells, as that of the bounds themselves, whether it has come to its end and which
 /// limits break.
 pub fn write_report<'v, O: Write>(
@@ -83,18 +84,18 @@ pub fn write_report<'v, O: Write>(
     texts: &Texts,
     system: &System,
     mode: ModeId,
-    distances: &[u32],
+    rules: &[ArrivalRule],
     bounds: Bounds,
     asked: BoundsAsked<'v>,
     out: &mut O,
 ) -> Result<Verdict<'v>, RunFault> {
-    let found = findings_of(alloc, system, mode, distances, bounds)?;
+    let found = findings_of(alloc, system, mode, rules, bounds)?;
     let verdict = verdict_of(alloc, system, &found, asked)?;
     let report = Report {
         texts,
         system,
         mode,
-        distances,
+        rules,
         found: &found,
         asked,
     };

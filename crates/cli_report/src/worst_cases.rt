@@ -44,7 +44,7 @@ fn write_case<O: Write>(
 ) -> Result<bool, RunFault> {
     let found = &report.found.bounds;
     let (system, mode) = (report.system, report.mode);
-    let run = run_of(alloc, system, mode, report.distances, found, named, name)?;
+    let run = run_of(alloc, system, mode, report.rules, found, named, name)?;
     match &run {
         Some(run) => write_run(alloc, report, named, name, run, is_first, out)?,
         None => write_unknown(named, name, out)?,

@@ -1,12 +1,8 @@
 //! The line of `bounds`.
 
-use crate::fault::Fault;
 use crate::help;
 use crate::reading::form;
 use clap::ArgMatches;
-use clap::error::ErrorKind;
-use osek_base::MAX_TICKS;
-use std::alloc::Global;
 use std::fmt;
 use view_figure_texts::{Form, is_measure, place_of};
 
@@ -79,13 +75,6 @@ impl fmt::Display for Wanted<'_> {
     }
 }
 
-/// How many ticks apart the interrupts of the routine of a name come at least, 1 to 1,000,000.
-#[derive(Clone, Copy)]
-pub struct Distance<'a> {
-    pub routine: &'a str,
-    pub ticks: u32,
-}
-
 pub(crate) fn searched<'a>(matches: &ArgMatches<'a>) -> BoundsLine<'a> {
     BoundsLine {
         mode: matches.get_str("MODE"),
@@ -123,28 +112,4 @@ pub(crate) fn figure_fault(matches: &ArgMatches<'_>) -> Option<&'static str> {
     };
     let word = wanted.column?;
     (!is_measure(word) && place_of(word).is_none()).then_some(help::NO_FIGURE)
-}
-
-/// A distance of that text, ROUTINE=TICKS.
-fn distance_of(text: &str) -> Option<Distance<'_>> {
-    let (routine, ticks) = text.split_once('=')?;
-    let ticks = ticks.parse::<u32>().ok()?;
-    (1 <= ticks && ticks <= MAX_TICKS).then_some(Distance { routine, ticks })
-}
-
-/// The distances of a line; none where its subcommand takes none.
-pub(crate) fn distances<'a>(
-    alloc: Global,
-    matches: &ArgMatches<'a>,
-) -> Result<Vec<Distance<'a>>, Fault> {
-    let mut distances = Vec::new(alloc);
-    if let Some(texts) = matches.get_strs("apart") {
-        for text in texts {
-            match distance_of(text) {
-                Some(distance) => distances.push(distance)?,
-                None => return Err(Fault::Refused(ErrorKind::ValueValidation, help::NO_DISTANCE)),
-            }
-        }
-    }
-    Ok(distances)
 }

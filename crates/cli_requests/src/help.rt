@@ -141,7 +141,15 @@ pub(crate) const RULES_FILE: &str =
     "A file of rules, which hold where the line says nothing else; with --in the folder's rules.txt unless it is said";
 
 pub(crate) const APART: &str =
-    "Interrupts of the routine come at least so many ticks apart, 1 to 1000000; 1 unless it is said";
+    "The period of the routine's interrupts: two come at least so many ticks apart, 1 to 1000000, but for jitter; 1 unless it is said";
+
+pub(crate) const JITTER: &str =
+    "By how much each interrupt of the routine may come later than its period says, 0 to 1000000; 0 unless it is said";
+
+pub(crate) const LEAST: &str =
+    "Two interrupts of the routine come at least so many ticks apart in any case, 1 to its period; 1 unless it is said";
+
+pub(crate) const NEVER: &str = "No interrupt of the routine comes";
 
 pub(crate) const STATES: &str =
     "How many states may be kept, 1 to 100000000; 1000000 unless it is said";
@@ -180,14 +188,21 @@ pub(crate) const WITNESSES: &str =
 pub(crate) const NO_FIGURE: &str =
     "a witness is NAME or NAME=FIGURE, with FIGURE greatest, blocked, blockers, jobs, refused, errors, latency, losses, longest, comes or the place of a service";
 
-pub(crate) const NO_DISTANCE: &str = "a distance is ROUTINE=TICKS, with TICKS from 1 to 1000000";
+pub(crate) const NO_PERIOD: &str = "a period is ROUTINE=TICKS, with TICKS from 1 to 1000000";
+
+pub(crate) const NO_JITTER: &str = "a jitter is ROUTINE=TICKS, with TICKS from 0 to 1000000";
+
+pub(crate) const NO_LEAST: &str = "a least distance is ROUTINE=TICKS, with TICKS from 1 to 1000000";
 
 pub(crate) const BOUNDS_EXAMPLE: &str =
-    "Whatever interrupts arrive that keep their distances, and for however many ticks, no run shows more. Where more states
+    "Whatever interrupts come as these rules say, and for however many ticks, no run shows more. Where more states
 would have to be kept, `undecided:` is printed, and the exit status is 5.
 
 Example, interrupts of Crank at least 20 ticks apart:
   osek bounds system.oil programs.asm Normal --apart Crank=20
+
+Of period 20, each up to 35 ticks late, and any two at least 2 ticks apart:
+  osek bounds system.oil programs.asm Normal --apart Crank=20 --jitter Crank=35 --least Crank=2
 
 Held to limits, for scripts:
   osek bounds system.oil programs.asm Normal --apart Crank=20 --limit Inject=30 --no-loss
@@ -205,7 +220,7 @@ pub(crate) const PAGE: &str =
     "The file that the page is written to; standard output unless it is said";
 
 pub(crate) const REPORT_EXAMPLE: &str =
-    "One HTML page that needs nothing else: the bounds of all runs with what they promise, the limits, the distances, the
+    "One HTML page that needs nothing else: the bounds of all runs with what they promise, the limits, how interrupts come, the
 cuts, pictures of the worst cases, and the system. Statuses are as of `bounds`.
 
 Example, of the folder engine and its rules:

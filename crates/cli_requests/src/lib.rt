@@ -6,6 +6,7 @@
 #![tactic(auto)]
 
 mod argument;
+mod arriving;
 mod bash_completions;
 mod bounds_line;
 mod fault;
@@ -22,7 +23,8 @@ mod subcommand;
 mod unread;
 mod zsh_completions;
 
-pub use bounds_line::{BoundsLine, Distance, MAX_LONGEST, MAX_STATES, Page, Wanted};
+pub use arriving::{RoutineTicks, SaidArriving};
+pub use bounds_line::{BoundsLine, MAX_LONGEST, MAX_STATES, Page, Wanted};
 pub use folder::{Folder, NAMES, folder_of, with_files};
 pub use help::VERSION;
 pub use host_files::{FileFault, Files, HostFiles, Refusal};

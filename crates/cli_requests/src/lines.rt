@@ -31,7 +31,12 @@ const SYSTEM: [Argument; 4] = [
 const PROGRESS: Argument = Argument::Flag("progress", help::PROGRESS);
 
 /// How interrupts come in every run.
-const APART: Argument = Argument::Option("apart", "ROUTINE=TICKS", Takes::Texts, help::APART);
+const ARRIVING: [Argument; 4] = [
+    Argument::Option("apart", "ROUTINE=TICKS", Takes::Texts, help::APART),
+    Argument::Option("jitter", "ROUTINE=TICKS", Takes::Texts, help::JITTER),
+    Argument::Option("least", "ROUTINE=TICKS", Takes::Texts, help::LEAST),
+    Argument::Option("never", "ROUTINE", Takes::Texts, help::NEVER),
+];
 
 /// How far a search through every run goes.
 const STATES: Argument = Argument::Option(
@@ -201,7 +206,9 @@ fn bounds() -> Subcommand {
             &[
                 MODE,
                 Argument::Option("rules", "FILE", Takes::Text, help::RULES_FILE),
-                APART,
+            ],
+            &ARRIVING,
+            &[
                 Argument::Option("witness", "NAME[=FIGURE]", Takes::Text, help::WITNESS),
                 Argument::Option("into", "FOLDER", Takes::Text, help::INTO),
                 Argument::Option("witnesses", "FOLDER", Takes::Text, help::WITNESSES),
@@ -231,7 +238,9 @@ fn report() -> Subcommand {
                 MODE,
                 Argument::Lettered('o', "output", "FILE", help::PAGE),
                 Argument::Option("rules", "FILE", Takes::Text, help::RULES_FILE),
-                APART,
+            ],
+            &ARRIVING,
+            &[
                 STATES,
                 LONGEST,
                 Argument::Option("limit", "NAME=TICKS", Takes::Texts, help::BOUNDS_LIMIT),

@@ -1,7 +1,8 @@
 //! Reads what a command line asks for.
 
+use crate::arriving::{never, said_by};
 use crate::bash_completions::bash_completions;
-use crate::bounds_line::{distances, figure_fault, reported, searched};
+use crate::bounds_line::{figure_fault, reported, searched};
 use crate::fault::Fault;
 use crate::help;
 use crate::lines::lines;
@@ -111,7 +112,10 @@ fn times<'a>(alloc: Global, matches: &ArgMatches<'a>) -> Result<Vec<Limit<'a>>, 
 /// What a line says of interrupts, limits and a search.
 fn rules<'a>(alloc: Global, matches: &ArgMatches<'a>) -> Result<Rules<'a>, Fault> {
     Ok(Rules {
-        distances: distances(alloc, matches)?,
+        apart: said_by(alloc, matches, "apart", 1, help::NO_PERIOD)?,
+        jitter: said_by(alloc, matches, "jitter", 0, help::NO_JITTER)?,
+        least: said_by(alloc, matches, "least", 1, help::NO_LEAST)?,
+        never: never(alloc, matches)?,
         times: times(alloc, matches)?,
         no_loss: matches.get_flag("no-loss"),
         no_refusal: matches.get_flag("no-refusal"),

@@ -1,6 +1,7 @@
 //! What bounds and figures go by: how interrupts come, what is held to, and how far a search goes.
 
-use crate::bounds_line::{Distance, USUAL_LONGEST, USUAL_STATES};
+use crate::arriving::{RoutineTicks, SaidArriving};
+use crate::bounds_line::{USUAL_LONGEST, USUAL_STATES};
 use std::alloc::{AllocError, Global};
 use view_figure_texts::{Limit, Limits};
 
@@ -8,8 +9,11 @@ use view_figure_texts::{Limit, Limits};
 /// goes.
 #[derive(Drop)]
 pub struct Rules<'a> {
-    /// The distances that interrupts keep.
-    pub distances: Vec<Distance<'a>>,
+    /// How interrupts come, as [`SaidArriving`] has it.
+    pub apart: Vec<RoutineTicks<'a>>,
+    pub jitter: Vec<RoutineTicks<'a>>,
+    pub least: Vec<RoutineTicks<'a>>,
+    pub never: Vec<RoutineTicks<'a>>,
     /// The limits on times that figures are held to.
     pub times: Vec<Limit<'a>>,
     /// Whether a lost interrupt is told by the exit status.
@@ -22,16 +26,56 @@ pub struct Rules<'a> {
     pub states: Option<u32>,
 }
 
+/// Whether something is said of a routine.
+fn is_said(said: &[RoutineTicks<'_>], routine: &str) -> bool {
+    for ticks in said {
+        if ticks.routine == routine {
+            return true;
+        }
+    }
+    false
+}
+
+/// Adds what is said, and behind it what others say of routines of which it says nothing.
+fn add_said<'a>(
+    all: &mut Vec<RoutineTicks<'a>>,
+    said: &[RoutineTicks<'a>],
+    others: &[RoutineTicks<'a>],
+) -> Result<(), AllocError> {
+    for ticks in said {
+        all.push(*ticks)?;
+    }
+    for ticks in others {
+        if !is_said(said, ticks.routine) {
+            all.push(*ticks)?;
+        }
+    }
+    Ok(())
+}
+
 impl<'a> Rules<'a> {
     /// Rules that say nothing.
     pub fn none(alloc: Global) -> Self {
         Rules {
-            distances: Vec::new(alloc),
+            apart: Vec::new(alloc),
+            jitter: Vec::new(alloc),
+            least: Vec::new(alloc),
+            never: Vec::new(alloc),
             times: Vec::new(alloc),
             no_loss: false,
             no_refusal: false,
             longest: None,
             states: None,
+        }
+    }
+
+    /// How interrupts come.
+    pub fn said(&'a self) -> SaidArriving<'a> {
+        SaidArriving {
+            apart: self.apart.as_slice(),
+            jitter: self.jitter.as_slice(),
+            least: self.least.as_slice(),
+            never: self.never.as_slice(),
         }
     }
 
@@ -54,16 +98,6 @@ impl<'a> Rules<'a> {
         self.states.unwrap_or(USUAL_STATES)
     }
 
-    /// Whether a distance of a routine is said.
-    fn has_distance(&self, routine: &str) -> bool {
-        for distance in &self.distances {
-            if distance.routine == routine {
-                return true;
-            }
-        }
-        false
-    }
-
     /// Whether a limit of that name is said.
     fn has_limit(&self, name: &str) -> bool {
         for limit in &self.times {
@@ -74,13 +108,8 @@ impl<'a> Rules<'a> {
         false
     }
 
-    /// Adds what other rules say of that of which nothing is said here.
+    /// Adds what other rules say of that of which nothing is said here, but of how interrupts come.
     fn add(&mut self, others: &Rules<'a>) -> Result<(), AllocError> {
-        for distance in &others.distances {
-            if !self.has_distance(distance.routine) {
-                self.distances.push(*distance)?;
-            }
-        }
         for limit in &others.times {
             if !self.has_limit(limit.name) {
                 self.times.push(*limit)?;
@@ -97,9 +126,10 @@ impl<'a> Rules<'a> {
     /// here.
     pub fn over(&self, alloc: Global, others: &Rules<'a>) -> Result<Rules<'a>, AllocError> {
         let mut rules = Rules::none(alloc);
-        for distance in &self.distances {
-            rules.distances.push(*distance)?;
-        }
+        add_said(&mut rules.apart, &self.apart, &others.apart)?;
+        add_said(&mut rules.jitter, &self.jitter, &others.jitter)?;
+        add_said(&mut rules.least, &self.least, &others.least)?;
+        add_said(&mut rules.never, &self.never, &others.never)?;
         for limit in &self.times {
             rules.times.push(*limit)?;
         }

@@ -3,8 +3,14 @@
 /// What a line says.
 #[derive(Clone, Copy)]
 pub(crate) enum RuleKind {
-    /// How far apart interrupts of a routine come at least.
+    /// The period of a routine's interrupts.
     Apart,
+    /// By how much each of them may come later.
+    Jitter,
+    /// How far apart they come in any case.
+    Least,
+    /// None of them comes.
+    Never,
     /// The greatest time that a task or routine may have.
     Limit,
     /// No interrupt may be lost.
@@ -18,8 +24,11 @@ pub(crate) enum RuleKind {
 }
 
 /// All of them.
-const KINDS: [RuleKind; 6] = [
+const KINDS: [RuleKind; 9] = [
     RuleKind::Apart,
+    RuleKind::Jitter,
+    RuleKind::Least,
+    RuleKind::Never,
     RuleKind::Limit,
     RuleKind::NoLoss,
     RuleKind::NoRefusal,
@@ -28,8 +37,11 @@ const KINDS: [RuleKind; 6] = [
 ];
 
 /// The first words of lines.
-pub(crate) const WORDS: [&str; 6] = [
+pub(crate) const WORDS: [&str; 9] = [
     "apart",
+    "jitter",
+    "least",
+    "never",
     "limit",
     "no-loss",
     "no-refusal",
@@ -52,6 +64,9 @@ impl RuleKind {
     pub(crate) fn word(self) -> &'static str {
         match self {
             RuleKind::Apart => "apart",
+            RuleKind::Jitter => "jitter",
+            RuleKind::Least => "least",
+            RuleKind::Never => "never",
             RuleKind::Limit => "limit",
             RuleKind::NoLoss => "no-loss",
             RuleKind::NoRefusal => "no-refusal",
@@ -64,6 +79,9 @@ impl RuleKind {
     pub(crate) fn form(self) -> &'static str {
         match self {
             RuleKind::Apart => "apart ROUTINE TICKS",
+            RuleKind::Jitter => "jitter ROUTINE TICKS",
+            RuleKind::Least => "least ROUTINE TICKS",
+            RuleKind::Never => "never ROUTINE",
             RuleKind::Limit => "limit TASK greatest TICKS, or limit ROUTINE latency TICKS",
             RuleKind::Longest => "longest TICKS",
             RuleKind::States => "states N",
@@ -74,10 +92,10 @@ impl RuleKind {
     /// How many words its lines have.
     pub(crate) fn len(self) -> usize {
         match self {
-            RuleKind::Apart => 3,
+            RuleKind::Apart | RuleKind::Jitter | RuleKind::Least => 3,
             RuleKind::Limit => 4,
             RuleKind::NoLoss | RuleKind::NoRefusal => 1,
-            RuleKind::Longest | RuleKind::States => 2,
+            RuleKind::Never | RuleKind::Longest | RuleKind::States => 2,
         }
     }
 }

@@ -4,7 +4,7 @@ use crate::fault::{RuleFault, RuleWrong};
 use crate::kind::RuleKind;
 use crate::names::Names;
 use crate::words::{Word, words_of};
-use cli_requests::{Distance, MAX_LONGEST, MAX_STATES, Rules};
+use cli_requests::{MAX_LONGEST, MAX_STATES, RoutineTicks, Rules};
 use oil_reader::OilFile;
 use osek_base::MAX_TICKS;
 use std::alloc::{AllocError, Global};
@@ -80,16 +80,42 @@ impl<'t> Reader<'_, '_, 't> {
         }
     }
 
-    fn distance(&mut self, routine: Word<'t>, ticks: Word<'t>) -> Result<(), AllocError> {
+    /// Takes down that a rule of a kind is said of a routine.
+    fn routine(&mut self, kind: RuleKind, routine: Word<'t>) -> Result<(), AllocError> {
         if self.names.has_routine(routine.text) {
-            self.say(RuleKind::Apart, routine.text, routine)?;
+            self.say(kind, routine.text, routine)
         } else {
-            self.refuse(routine, RuleWrong::NoRoutine)?;
+            self.refuse(routine, RuleWrong::NoRoutine)
         }
-        let ticks = self.number(ticks, 1, MAX_TICKS)?;
-        self.rules.distances.push(Distance {
+    }
+
+    /// Reads how interrupts of a routine come: ticks from the least on.
+    fn arriving(
+        &mut self,
+        kind: RuleKind,
+        routine: Word<'t>,
+        ticks: Word<'t>,
+        least: u32,
+    ) -> Result<(), AllocError> {
+        self.routine(kind, routine)?;
+        let said = RoutineTicks {
             routine: routine.text,
-            ticks,
+            ticks: self.number(ticks, least, MAX_TICKS)?,
+        };
+        match kind {
+            RuleKind::Jitter => self.rules.jitter.push(said)?,
+            RuleKind::Least => self.rules.least.push(said)?,
+            _ => self.rules.apart.push(said)?,
+        }
+        Ok(())
+    }
+
+    /// Reads that no interrupt of a routine comes.
+    fn never(&mut self, routine: Word<'t>) -> Result<(), AllocError> {
+        self.routine(RuleKind::Never, routine)?;
+        self.rules.never.push(RoutineTicks {
+            routine: routine.text,
+            ticks: 0,
         })?;
         Ok(())
     }
@@ -158,7 +184,13 @@ impl<'t> Reader<'_, '_, 't> {
         rest: &[Word<'t>],
     ) -> Result<(), AllocError> {
         match (kind, rest) {
-            (RuleKind::Apart, [routine, ticks]) => return self.distance(*routine, *ticks),
+            (RuleKind::Apart | RuleKind::Least, [routine, ticks]) => {
+                return self.arriving(kind, *routine, *ticks, 1);
+            }
+            (RuleKind::Jitter, [routine, ticks]) => {
+                return self.arriving(kind, *routine, *ticks, 0);
+            }
+            (RuleKind::Never, [routine]) => return self.never(*routine),
             (RuleKind::Limit, [thing, figure, ticks]) => {
                 return self.limit(*thing, *figure, *ticks);
             }

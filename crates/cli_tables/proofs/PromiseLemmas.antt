@@ -3,6 +3,7 @@ use Rattle.std.specs.Prelude.{ℕ, ◌≡◌, ◌<◌, Bool, true, false, cond, 
 use Rattle.std.proofs.Common.{refl, subst}
 use Rattle.std.proofs.lemmas.Bool.{ltb-true}
 use Rattle.osek_base.specs.System.{System}
+use Rattle.arrival_rules.specs.declared.rule.ArrivalRule.{ArrivalRule}
 use Rattle.view_measures.specs.declared.figure.Figure.{Figure}
 use Rattle.view_measures.specs.declared.measure.Measure.{Measure}
 use Rattle.view_measures.specs.declared.measure.Sort.{Sort}
@@ -25,16 +26,16 @@ less_than_cap : (cap : ℕ) (measure : Measure) (n : ℕ) → sort_of measure �
 less_than_cap cap measure n is h =
     ltb-true n cap (subst (λ s. IsTrue (is_sort_below cap s n)) is (below_by_sort cap measure n h))
 
-module _ (S : System) (mode : ℕ) (distances : List ℕ) (f : Findings)
-    (are : AreFindings S mode distances f) where
+module _ (S : System) (mode : ℕ) (rules : List ArrivalRule) (f : Findings)
+    (are : AreFindings S mode rules f) where
   -- what is told is marked as reached where it is so
   promised_so : (figure : Figure) → IsTrue (is_below f.bounds.cap f.bounds.peaks figure)
-      → IsPromised S mode distances f.bounds figure (is_reached f figure)
+      → IsPromised S mode rules f.bounds figure (is_reached f figure)
   promised_so figure below = record { below = below; shown = are.reached figure }
 
   by_sort : (figure : Figure) (sort : Sort) → sort_of figure.measure ≡ sort
       → IsTrue (is_below f.bounds.cap f.bounds.peaks figure)
-      → Promises S mode distances f.bounds figure
+      → Promises S mode rules f.bounds figure
       (cell_below sort (told f.bounds.peaks figure) (is_reached f figure))
   by_sort figure Sort.Time is h = (
     refl,
@@ -46,15 +47,15 @@ module _ (S : System) (mode : ℕ) (distances : List ℕ) (f : Findings)
 
   -- what is told without an end, below the cap, or above it
   by_end : (figure : Figure) (told : Cell) (ends below : Bool)
-      → (IsTrue ends → Promises S mode distances f.bounds figure Cell.Unbounded)
-      → (IsTrue below → Promises S mode distances f.bounds figure told)
+      → (IsTrue ends → Promises S mode rules f.bounds figure Cell.Unbounded)
+      → (IsTrue below → Promises S mode rules f.bounds figure told)
       → is_below f.bounds.cap f.bounds.peaks figure ≡ below
-      → Promises S mode distances f.bounds figure (cond ends Cell.Unbounded (cond below told Cell.Above))
+      → Promises S mode rules f.bounds figure (cond ends Cell.Unbounded (cond below told Cell.Above))
   by_end figure told true below unbounded within is = unbounded refl
   by_end figure told false true unbounded within is = within refl
   by_end figure told false false unbounded within is = is
 
-  pub promised : (figure : Figure) → Promises S mode distances f.bounds figure (cell_of f figure)
+  pub promised : (figure : Figure) → Promises S mode rules f.bounds figure (cell_of f figure)
   promised figure =
       by_end figure _ (is_endless f figure) (is_below f.bounds.cap f.bounds.peaks figure)
       (are.endless figure) (by_sort figure (sort_of figure.measure) refl) refl

@@ -1,4 +1,4 @@
-pub mod Distances
+pub mod Arriving
 pub mod Modes
 pub mod Cells
 pub mod Promises

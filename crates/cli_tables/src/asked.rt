@@ -5,21 +5,21 @@ ghost use Rattle.cli_tables.specs.Modes.{IsModeAsked};
 
 use crate::naming::is_known;
 use cli_answers::{Texts, mode_of};
-use cli_requests::{BoundsLine, Distance, Request, Wanted};
+use cli_requests::{BoundsLine, Request, SaidArriving, Wanted};
 use kernel::BootFault;
 use osek_base::{ModeId, System};
 use std::alloc::Global;
 use tracer::RunFault;
 use view_figure_texts::Limits;
 
-/// What is asked of bounds, under which distances, and what they are held to.
+/// What is asked of bounds, where interrupts come as is said, and what they are held to.
 #[derive(Clone, Copy)]
 pub struct BoundsAsked<'v> {
     /// What asks it: it tells whether it is said what the figures mean.
     pub request: &'v Request<'v>,
     pub line: BoundsLine<'v>,
-    /// The distances that are said.
-    pub said: &'v [Distance<'v>],
+    /// How interrupts come.
+    pub said: SaidArriving<'v>,
     pub limits: Limits<'v>,
 }
 

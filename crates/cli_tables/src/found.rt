@@ -1,14 +1,15 @@
 //! What is written of what a search has found: bounds, the run that is wanted, or how far it came.
 
-use crate::apart::write_unsaid;
 use crate::asked::BoundsAsked;
 use crate::broken::broken_bounds;
+use crate::coming::write_unsaid;
 use crate::csv_text::csv_of;
 use crate::json_text::json_of;
 use crate::remarks::write_remarks;
 use crate::storing::{Storing, store_all};
 use crate::witnessing::write_witness;
 use crate::writing::{write_decided, write_undecided, write_up_to};
+use arrival_rules::ArrivalRule;
 use cli_answers::{StoredRun, Verdict};
 use osek_base::{ModeId, System};
 use search::{Obstacle, Outcome, Progress};
@@ -36,7 +37,7 @@ fn write_bounds<O: Write>(
     Ok(())
 }
 
-/// What is said of distances that nobody said, and of figures where it is asked for. The only write
+/// What is told of routines of which nothing is said, and of figures where it is asked for. The only write
 /// that can fail there is for want of memory.
 fn remarks_of(
     alloc: Global,
@@ -118,7 +119,7 @@ pub fn write_found<'v, O: Write>(
     alloc: Global,
     system: &System,
     mode: ModeId,
-    distances: &[u32],
+    rules: &[ArrivalRule],
     bounds: Bounds,
     asked: BoundsAsked<'v>,
     runs: &mut Vec<StoredRun>,
@@ -132,15 +133,15 @@ pub fn write_found<'v, O: Write>(
     };
     if let Some(wanted) = asked.line.witness {
         return write_witness(
-            alloc, system, mode, distances, &bounds, wanted, asked, runs, out,
+            alloc, system, mode, rules, &bounds, wanted, asked, runs, out,
         );
     }
-    let found = Findings::of(alloc, system, mode, distances, bounds)?;
+    let found = Findings::of(alloc, system, mode, rules, bounds)?;
     if let Some(folder) = asked.line.witnesses {
         let storing = Storing {
             system,
             mode,
-            distances,
+            rules,
             folder,
         };
         store_all(alloc, &storing, &found, runs)?;

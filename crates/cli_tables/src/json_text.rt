@@ -1,11 +1,11 @@
 //! Bounds as JSON: an object by kinds, in each one by names, and in each of these one by columns;
-//! and the distances that they hold under.
+//! and how interrupts come.
 
+use crate::arriving::said_of;
 use crate::cells::Cell;
-use crate::distances::said_of;
 use crate::failed_service::name_of;
 use crate::told::{cell, service_standing};
-use cli_requests::Distance;
+use cli_requests::SaidArriving;
 use osek_base::System;
 use search_witnesses::Findings;
 use seen_ticks::Failure;
@@ -98,30 +98,38 @@ fn services(alloc: Global, system: &System, found: &Findings) -> Result<Value, A
     Ok(Value::Array(services))
 }
 
-/// The distance of a routine, and whether it is said.
-fn distance(alloc: Global, said: Option<u32>) -> Result<Value, AllocError> {
+/// How interrupts of a routine come: their period, and whether it is said, their jitter and least
+/// distance, and whether none comes.
+fn coming(alloc: Global, said: SaidArriving<'_>, name: &str) -> Result<Value, AllocError> {
     let mut told = Map::new(alloc);
-    put(alloc, &mut told, "ticks", Value::from(said.unwrap_or(1)))?;
-    put(alloc, &mut told, "said", Value::Bool(said.is_some()))?;
+    let period = said_of(said.apart, name);
+    put(alloc, &mut told, "ticks", Value::from(period.unwrap_or(1)))?;
+    put(alloc, &mut told, "said", Value::Bool(period.is_some()))?;
+    let jitter = said_of(said.jitter, name).unwrap_or(0);
+    put(alloc, &mut told, "jitter", Value::from(jitter))?;
+    let least = said_of(said.least, name).unwrap_or(1);
+    put(alloc, &mut told, "least", Value::from(least))?;
+    let never = said_of(said.never, name).is_some();
+    put(alloc, &mut told, "never", Value::Bool(never))?;
     Ok(Value::Object(told))
 }
 
-/// The distances of all routines, by names.
-fn distances(alloc: Global, system: &System, said: &[Distance<'_>]) -> Result<Value, AllocError> {
-    let mut distances = Map::new(alloc);
+/// How those of all routines come, by names.
+fn comings(alloc: Global, system: &System, said: SaidArriving<'_>) -> Result<Value, AllocError> {
+    let mut comings = Map::new(alloc);
     for name in &system.names().routines {
-        let told = distance(alloc, said_of(said, name.as_str()))?;
-        put(alloc, &mut distances, name.as_str(), told)?;
+        let told = coming(alloc, said, name.as_str())?;
+        put(alloc, &mut comings, name.as_str(), told)?;
     }
-    Ok(Value::Object(distances))
+    Ok(Value::Object(comings))
 }
 
-/// The text of the distances, of all figures, and of the services that may be answered other than
+/// The text of how interrupts come, of all figures, and of the services that may be answered other than
 /// E_OK.
 pub fn json_of(
     alloc: Global,
     system: &System,
-    said: &[Distance<'_>],
+    said: SaidArriving<'_>,
     found: &Findings,
 ) -> Result<Vec<u8>, AllocError> {
     let mut kinds = Map::new(alloc);
@@ -131,7 +139,7 @@ pub fn json_of(
     }
     let services = services(alloc, system, found)?;
     put(alloc, &mut kinds, "service", services)?;
-    put(alloc, &mut kinds, "apart", distances(alloc, system, said)?)?;
+    put(alloc, &mut kinds, "apart", comings(alloc, system, said)?)?;
     let mut text = Value::Object(kinds).to_vec_pretty(alloc)?;
     text.push(b'\n')?;
     Ok(text)

@@ -1,7 +1,7 @@
 //! Writes what a search through every run has found: as tables, comma-separated values and JSON,
 //! what it means, which limits break, or a run that shows a figure.
 //!
-//! - A search's mode and distances are exactly those asked for (`mode_id`, `all_distances`).
+//! - A search's mode and rules are exactly those asked for (`mode_id`, `all_rules`).
 //! - `cell`: exactly what is told of a figure, and what that promises is so of findings
 //!   (`Promises`). A number is what the bounds tell, and a time is below the cap; where a run is
 //!   said to show it, one does, or it is 0. A time that is said to have no bound has none.
@@ -12,12 +12,12 @@
 //! - Tables, JSON and remarks go by the same cells. How they are laid out is tested.
 #![tactic(auto)]
 
-mod apart;
+mod arriving;
 mod asked;
 mod broken;
 mod cells;
+mod coming;
 mod csv_text;
-mod distances;
 mod failed_service;
 mod failed_services;
 mod found;
@@ -32,12 +32,12 @@ mod told;
 mod witnessing;
 mod writing;
 
-pub use apart::write_apart;
+pub use arriving::{all_rules, arriving_fault, said_of};
 pub use asked::{BoundsAsked, mode_id, unknown_figure};
 pub use broken::broken_bounds;
 pub use cells::Cell;
+pub use coming::write_coming;
 pub use csv_text::csv_of;
-pub use distances::{all_distances, distance_fault, said_of};
 pub use failed_service::service_text;
 pub use failed_services::write_services;
 pub use found::{verdict_of, write_found};

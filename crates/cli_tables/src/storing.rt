@@ -5,6 +5,7 @@ use crate::failed_service::name_of;
 use crate::naming::NamedFigure;
 use crate::told::cell;
 use crate::witnessing::{failing_run, run_of};
+use arrival_rules::ArrivalRule;
 use cli_answers::StoredRun;
 use osek_base::{ModeId, System};
 use search_witnesses::Findings;
@@ -13,12 +14,12 @@ use tracer::RunFault;
 use view_figure_texts::measure_word;
 use view_measures::{Figure, KINDS};
 
-/// What bounds are stored of: a system in a mode under distances, and the folder of all.
+/// What bounds are stored of: a system in a mode, the rules of interrupts, and the folder of all.
 #[derive(Clone, Copy)]
 pub(crate) struct Storing<'s> {
     pub system: &'s System,
     pub mode: ModeId,
-    pub distances: &'s [u32],
+    pub rules: &'s [ArrivalRule],
     pub folder: &'s str,
 }
 
@@ -43,7 +44,7 @@ fn store_figure(
     let Storing {
         system,
         mode,
-        distances,
+        rules,
         folder,
     } = *storing;
     if !is_shown(cell(found, figure)) {
@@ -57,7 +58,7 @@ fn store_figure(
         kind: kind.word(),
         column: word,
     };
-    if let Some(run) = run_of(alloc, system, mode, distances, &found.bounds, named, name)? {
+    if let Some(run) = run_of(alloc, system, mode, rules, &found.bounds, named, name)? {
         let path = format!(in alloc; "{folder}/{}-{name}-{word}", kind.word())?;
         run.store(system, mode, path, runs)?;
     }
@@ -75,13 +76,13 @@ fn store_service(
     let Storing {
         system,
         mode,
-        distances,
+        rules,
         folder,
     } = *storing;
     let Some(failure) = found.bounds.peaks.failures().get(number) else {
         return Ok(());
     };
-    if let Some(run) = failing_run(alloc, system, mode, distances, &found.bounds, number)? {
+    if let Some(run) = failing_run(alloc, system, mode, rules, &found.bounds, number)? {
         let path = format!(in alloc;
             "{folder}/service-{}-{}-{}",
             name_of(system, failure.owner),

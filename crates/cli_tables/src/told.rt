@@ -2,6 +2,7 @@
 
 ghost use Rattle.std.specs.Prelude.{ℕ, ◌≡◌, List};
 ghost use Rattle.osek_base.specs.System.{System};
+ghost use Rattle.arrival_rules.specs.declared.rule.ArrivalRule.{ArrivalRule};
 ghost use Rattle.search_witnesses.specs.Findings.{AreFindings};
 ghost use Rattle.cli_tables.specs.Cells.{cell_of};
 ghost use Rattle.cli_tables.specs.Promises.{Promises};
@@ -31,9 +32,9 @@ fn told_cell(found: &Findings, figure: Figure) -> Cell
 /// What is told of a figure. Where the findings are those of a system, what it promises is so.
 pub fn cell(found: &Findings, figure: Figure) -> Cell
     ensures exact { result ≡ cell_of found.now figure }
-    ensures promises { (S : System) (mode : ℕ) (distances : List ℕ)
-        → AreFindings S mode distances found.now
-        → Promises S mode distances found.now.bounds figure result }
+    ensures promises { (S : System) (mode : ℕ) (rules : List ArrivalRule)
+        → AreFindings S mode rules found.now
+        → Promises S mode rules found.now.bounds figure result }
 {
     told_cell(found, figure)
 }

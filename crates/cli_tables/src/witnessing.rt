@@ -4,6 +4,7 @@ use crate::asked::BoundsAsked;
 use crate::failed_service::service_text;
 use crate::naming::{NamedFigure, figure_named, service_named};
 use arrival_reader::print_arrivals;
+use arrival_rules::ArrivalRule;
 use cli_answers::{StoredRun, Verdict};
 use cli_requests::Wanted;
 use osek_base::{ModeId, System};
@@ -75,12 +76,12 @@ fn endless_of(
     alloc: Global,
     system: &System,
     mode: ModeId,
-    distances: &[u32],
+    rules: &[ArrivalRule],
     found: &Bounds,
     figure: Figure,
 ) -> Result<Option<Endless>, AllocError> {
     match figure.measure {
-        Measure::Response => find_endless(alloc, system, mode, distances, found, figure.number),
+        Measure::Response => find_endless(alloc, system, mode, rules, found, figure.number),
         _ => Ok(None),
     }
 }
@@ -100,16 +101,16 @@ pub fn run_of(
     alloc: Global,
     system: &System,
     mode: ModeId,
-    distances: &[u32],
+    rules: &[ArrivalRule],
     found: &Bounds,
     named: NamedFigure,
     name: &str,
 ) -> Result<Option<ShownRun>, RunFault> {
-    let Some(witness) = find_witness(alloc, system, mode, distances, found, named.figure)? else {
+    let Some(witness) = find_witness(alloc, system, mode, rules, found, named.figure)? else {
         return Ok(None);
     };
     let mut lines = line_of(alloc, found, named, name, &witness)?;
-    let endless = endless_of(alloc, system, mode, distances, found, named.figure)?;
+    let endless = endless_of(alloc, system, mode, rules, found, named.figure)?;
     let mut arrivals = &witness.arrivals;
     let mut first = witness.ticks.saturating_sub(found.peaks.told(named.figure));
     let mut end = witness.ticks;
@@ -135,14 +136,14 @@ pub(crate) fn failing_run(
     alloc: Global,
     system: &System,
     mode: ModeId,
-    distances: &[u32],
+    rules: &[ArrivalRule],
     found: &Bounds,
     number: usize,
 ) -> Result<Option<ShownRun>, RunFault> {
     let Some(failure) = found.peaks.failures().get(number) else {
         return Ok(None);
     };
-    let Some(witness) = find_failing(alloc, system, mode, distances, found, number)? else {
+    let Some(witness) = find_failing(alloc, system, mode, rules, found, number)? else {
         return Ok(None);
     };
     let service = service_text(alloc, system, failure)?;
@@ -162,7 +163,7 @@ pub(crate) fn write_witness<'v, O: Write>(
     alloc: Global,
     system: &System,
     mode: ModeId,
-    distances: &[u32],
+    rules: &[ArrivalRule],
     found: &Bounds,
     wanted: Wanted<'v>,
     asked: BoundsAsked<'v>,
@@ -171,9 +172,9 @@ pub(crate) fn write_witness<'v, O: Write>(
 ) -> Result<Verdict<'v>, RunFault> {
     let Wanted { name, column } = wanted;
     let shown = match figure_named(system, name, column) {
-        Some(named) => run_of(alloc, system, mode, distances, found, named, name)?,
+        Some(named) => run_of(alloc, system, mode, rules, found, named, name)?,
         None => match service_named(system, found, name, column) {
-            Some(number) => failing_run(alloc, system, mode, distances, found, number)?,
+            Some(number) => failing_run(alloc, system, mode, rules, found, number)?,
             None => return Ok(Verdict::NoFigure(wanted)),
         },
     };

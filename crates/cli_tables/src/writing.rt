@@ -1,8 +1,8 @@
 //! How far a search for bounds came.
 
-use crate::apart::write_apart;
+use crate::coming::write_coming;
 use crate::table::write_tables;
-use cli_requests::Distance;
+use cli_requests::SaidArriving;
 use osek_base::System;
 use search::{Obstacle, Outcome, Progress};
 use search_witnesses::Findings;
@@ -31,30 +31,30 @@ pub fn write_outcome<W: Write>(outcome: Outcome, out: &mut W) -> io::Result<()> 
     }
 }
 
-/// Writes how many states a system comes to, under which distances, and the tables. An error is a
+/// Writes how many states a system comes to, how interrupts come, and the tables. An error is a
 /// failed write.
 pub fn write_decided<W: Write>(
     system: &System,
-    said: &[Distance<'_>],
+    said: SaidArriving<'_>,
     found: &Findings,
     progress: Progress,
     out: &mut W,
 ) -> io::Result<()> {
     write_end(progress, out)?;
-    write_apart(system, said, out)?;
+    write_coming(system, said, out)?;
     write_tables(system, found, out)
 }
 
-/// Writes the distances, and the tables of what no run of so many ticks shows more of as a search
+/// Writes how interrupts come, and the tables of what no run of so many ticks shows more of as a search
 /// that stopped before its end has tried, where these are any. An error is a failed write.
 pub fn write_up_to<W: Write>(
     system: &System,
-    said: &[Distance<'_>],
+    said: SaidArriving<'_>,
     found: &Findings,
     progress: Progress,
     out: &mut W,
 ) -> io::Result<()> {
-    write_apart(system, said, out)?;
+    write_coming(system, said, out)?;
     if progress.levels == 0 {
         return Ok(());
     }

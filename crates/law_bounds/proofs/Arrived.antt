@@ -1,7 +1,10 @@
 -- The set of the routines that arrive in a tick stands for them.
-use Rattle.std.proofs.Common.{ℕ, zero, suc, ◌≡◌, ◌<◌, ◌≤◌, ◌^◌, Bool, List, [], ◌∷◌, length, sym, subst, arith}
-use Rattle.std.specs.List.{All}
+use Rattle.std.proofs.Common.{ℕ, zero, suc, ◌≡◌, ◌<◌, ◌≤◌, ◌^◌, inl, inr, Bool, List, [], ◌∷◌, length, sym, ◌∙◌, ap, subst, arith}
+use Rattle.std.specs.Prelude.{◌==◌}
+use Rattle.std.specs.List.{All, AllByRecursion}
+use Rattle.std.proofs.lemmas.Bool.{cases_lt}
 use Rattle.std.proofs.lemmas.List.Elements.{All-append, All-filter}
+use Rattle.std.proofs.lemmas.Nat.Bits.{bit_at_above}
 use Rattle.osek_base.specs.declared.arrivals.Arrival.{Arrival}
 use Rattle.osek_base.specs.Lists.{below}
 use Rattle.osek_base.specs.Proper.{IsProper}
@@ -12,11 +15,12 @@ use Rattle.seen_ticks.specs.Observed.{times}
 use Rattle.law_future.specs.Alike.{kept_after}
 use Rattle.law_future.specs.Shown.{arrives, chosen_of}
 use Rattle.law_future.proofs.Arrivals.{before_chosen, tick_chosen}
-use Rattle.law_future.proofs.Covered.{size}
 use Rattle.law_future.proofs.Sets.{set_has, set_low, set_of}
+use Rattle.law_future.proofs.Sizes.{size}
 use Rattle.law_future.proofs.Tables.{filter_same}
 use Rattle.search_labels.specs.Labels.{arrives_in}
 use Rattle.law_bounds.proofs.Counted.{times_chosen}
+use Rattle.law_bounds.proofs.Known.{unknown_in}
 
 -- ---- routines that are chosen are of the system
 
@@ -55,6 +59,16 @@ module _ (S : System) (arrivals : List Arrival) (n : ℕ) where
 
   pub in_set : (i : ℕ) → i < length S.routines → arrives_in set_at i ≡ arrives arrivals n i
   in_set i low = set_has (arrives arrivals n) (length S.routines) i low
+
+  -- and none of another routine arrives, or is in the set
+  pub arrive_alike : AllByRecursion (λ (a : Arrival). a.routine < length S.routines) arrivals
+      → (i : ℕ) → arrives_in set_at i ≡ arrives arrivals n i
+  arrive_alike known i = elim (cases_lt i (length S.routines)) [
+    | inl low ↦ in_set i low
+    | inr high ↦
+        ap (λ b. b == 1) (bit_at_above set_at (length S.routines) i set_is_low high)
+        ∙ sym (unknown_in (length S.routines) n i arrivals known high)
+  ]
 
   chosen_same : chosen_of S (arrives arrivals n) ≡ chosen_of S (arrives_in set_at)
   chosen_same =

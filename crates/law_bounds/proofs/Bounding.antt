@@ -8,6 +8,9 @@ use Rattle.osek_base.specs.declared.ids.Owner.{Owner}
 use Rattle.osek_base.specs.Proper.{IsProper}
 use Rattle.osek_base.specs.System.{System}
 use Rattle.osek_base.specs.Trace.{run}
+use Rattle.arrival_rules.specs.declared.rule.ArrivalRule.{ArrivalRule}
+use Rattle.arrival_rules.specs.Rules.{KeepRules, comes, rule_at}
+use Rattle.arrival_rules.proofs.Owed.{debts_are_below}
 use Rattle.law_runs.proofs.RunSteps.{going_before}
 use Rattle.law_kept.specs.Kept.{Kept}
 use Rattle.law_kept.specs.KeptTick.{KeptStep, boot_in, tick_in}
@@ -18,7 +21,6 @@ use Rattle.seen_ticks.specs.declared.routine_seen.RoutineSeen.{RoutineSeen}
 use Rattle.seen_ticks.specs.declared.task_seen.TaskSeen.{TaskSeen}
 use Rattle.seen_ticks.specs.Observed.{answered, failure_of, owner_of, routine_seen, task_seen, tick_at}
 use Rattle.law_future.specs.Alike.{kept_after}
-use Rattle.law_future.proofs.Covered.{none_waits}
 use Rattle.law_future.proofs.Futures.{kept_more}
 use Rattle.view_figures.specs.FigureSums.{is_error, is_routine, is_task, levels_of}
 use Rattle.view_measures.specs.declared.kind.Kind.{Kind}
@@ -32,14 +34,13 @@ use Rattle.law_seen.proofs.Shown.{runs_show}
 use Rattle.search.specs.Admitted.{IsAbove}
 use Rattle.search.specs.Levels.{AreLevels}
 use Rattle.search.specs.Searched.{AreAll, IsTried, IsVisited}
-use Rattle.search_labels.specs.Labels.{ages_of, distance_of, hold_of, pending_of}
+use Rattle.search_labels.specs.Labels.{ages_of, hold_of, pending_of}
 use Rattle.search_labels.specs.Ticks.{holder_tick, routine_in, routine_tick, task_in, task_tick}
 use Rattle.search_peaks.specs.Noting.{IsNoted, TickShown, blocked_ticks, fails_by, reading_by, seen_count}
 use Rattle.search_peaks.specs.Peaks.{Peaks, is_below, told}
 use Rattle.search_keys.specs.Key.{key}
 use Rattle.law_bounds.specs.Bounds.{IsTickWithin, LevelsBound, SearchesBound}
-use Rattle.law_bounds.specs.Distances.{KeepDistances}
-use Rattle.law_bounds.specs.Nodes.{AreNoted, IsAfter, May, Node, Setting, StandsFor, routines_of, rules_of, tick_shown_from}
+use Rattle.law_bounds.specs.Nodes.{AreNoted, IsAfter, May, Node, Setting, StandsFor, routines_of, search_rules, tick_shown_from}
 use Rattle.law_bounds.specs.RunTicks.{blocked_at}
 use Rattle.law_bounds.specs.Showing.{shown_by}
 use Rattle.law_bounds.proofs.Arrived.{StandFor, in_set, set_at, set_is_low, set_stands}
@@ -59,8 +60,8 @@ none_or_one zero seen there few none =
 none_or_one (suc m) seen there few none = omega arith
 
 module _ (s : Setting) (peaks : Peaks) (count : ℕ) (levels : ℕ → List Node)
-    (proper : IsProper s.system) (all : AreLevels (rules_of s) (AreNoted s peaks) count levels)
-    (arrivals : List Arrival) (keep : KeepDistances s.system s.distances arrivals) where
+    (proper : IsProper s.system) (all : AreLevels (search_rules s) (AreNoted s peaks) count levels)
+    (arrivals : List Arrival) (keep : KeepRules s.system s.rules arrivals) where
   abbrev S : System
   S = s.system
 
@@ -83,11 +84,11 @@ module _ (s : Setting) (peaks : Peaks) (count : ℕ) (levels : ℕ → List Node
     node : Node
     stands : StandsFor s node (after n)
     bounds : AreBoundsAt s arrivals n node.labels
-    visited : IsVisited (rules_of s) (AreNoted s peaks) (levels (suc n)) node
+    visited : IsVisited (search_rules s) (AreNoted s peaks) (levels (suc n)) node
 
   covers_too : (n : ℕ) (y : Node) → (has : HasNode n)
-      → IsVisited (rules_of s) (AreNoted s peaks) (levels (suc n)) y
-      → IsAbove (rules_of s) y has.node → HasVisited n
+      → IsVisited (search_rules s) (AreNoted s peaks) (levels (suc n)) y
+      → IsAbove (search_rules s) y has.node → HasVisited n
   covers_too n y has visited (inl same) = record {
     node = y;
     stands = subst (λ (x : Node). StandsFor s x (after n)) (sym same) has.stands;
@@ -118,15 +119,17 @@ module _ (s : Setting) (peaks : Peaks) (count : ℕ) (levels : ℕ → List Node
   may n going has = record {
     going = sym has.stands.over ∙ going;
     low = set_is_low S arrivals n;
-    free = λ i low is.
-        let none = none_waits S (distance_of s.distances) arrivals keep.spaced n i low
-        (sym (in_set S arrivals n i low) ∙ is) in
-        let sooner = has.bounds.sooner i low in
-        omega (arith, none, sooner);
+    free = λ i low is m among of.
+        let rule : ArrivalRule = rule_at s.rules m in
+        let come : IsTrue (comes arrivals rule.routine n) =
+        subst (λ k. IsTrue (comes arrivals k n)) (sym of) (sym (in_set S arrivals n i low) ∙ is) in
+        let below = debts_are_below rule arrivals n (keep.each m) come in
+        let sooner = has.bounds.sooner m among in
+        omega (arith, below, sooner);
   }
 
   tried : (n : ℕ) → (run S s.mode arrivals n).state.over ≡ false → (has : HasVisited n)
-      → IsTried (rules_of s) (AreNoted s peaks) (levels (suc n)) has.node (set n)
+      → IsTried (search_rules s) (AreNoted s peaks) (levels (suc n)) has.node (set n)
   tried n going has = has.visited (set n) (may n going has)
 
   first_node : 0 < count → HasNode 0
@@ -167,7 +170,7 @@ module _ (s : Setting) (peaks : Peaks) (count : ℕ) (levels : ℕ → List Node
         };
         bounds =
             at_least s arrivals (suc n) next.1.labels _ is.labels
-            (tick_bounds s arrivals n has.node.labels has.bounds (arrived n));
+            (tick_bounds s arrivals n has.node.labels has.bounds keep.known (arrived n));
       }
 
   node_at : (n : ℕ) → n < count → (run S s.mode arrivals n).state.over ≡ false → HasNode n
@@ -243,7 +246,8 @@ module _ (s : Setting) (peaks : Peaks) (count : ℕ) (levels : ℕ → List Node
         let low = ltb-true _ _ of in
         age_low S s.mode arrivals proper k n _ going
         (subst (IsAtMost (told peaks (figure Measure.Response k)))
-        (sym (ages_agree S s.mode arrivals n here (arrived n) k low (ages_at s arrivals k n)).oldest)
+        (sym
+        (ages_agree S s.mode arrivals n here (arrived n) k low (ages_at s arrivals k n)).oldest)
         (oldest_within s.cap (told peaks (figure Measure.Response k)) (ltb-true _ _ below)
         (task_tick seen k) (ages_of has.node.labels k) (ages_at s arrivals k n)
         (has.bounds.ages k low) (read Measure.Response k of)))
@@ -262,7 +266,8 @@ module _ (s : Setting) (peaks : Peaks) (count : ℕ) (levels : ℕ → List Node
         omega (arith, few, same)
     low_by Measure.Refusal k of below =
         let few = read Measure.Refusal k of in
-        let same : (task_seen S (tick_at S s.mode arrivals n) k).refused ≡ (task_in seen k).refused =
+        let same : (task_seen S (tick_at S s.mode arrivals n) k).refused
+        ≡ (task_in seen k).refused =
         ap (λ (t : TaskSeen). t.refused) (told_same.tasks k)
         ∙ refused_same S s.mode arrivals n here (arrived n) k (ltb-true _ _ of) in
         omega (arith, few, same)
@@ -329,8 +334,8 @@ levels_bound s peaks count levels proper enough own all = record {
 
 -- nodes that stand for all that can come do for any number of steps
 as_levels : (s : Setting) (peaks : Peaks) (nodes : List Node)
-    → AreAll (rules_of s) (AreNoted s peaks) nodes
-    → (count : ℕ) → AreLevels (rules_of s) (AreNoted s peaks) count (λ _. nodes)
+    → AreAll (search_rules s) (AreNoted s peaks) nodes
+    → (count : ℕ) → AreLevels (search_rules s) (AreNoted s peaks) count (λ _. nodes)
 as_levels s peaks nodes all count = record {
   first = λ _. all.first;
   visited = λ k low x at. record { node = x; above = inl refl; visited = all.visited x at };

@@ -8,7 +8,7 @@ first_kept : (s : Setting) (x y : Node) → IsFirst s x → Covers y x → IsFir
 first_kept s x y first covers = record {
   key = first.key ∙ sym covers.key;
   over = first.over ∙ sym covers.over;
-  labels = at_least_joined y.labels x.labels (labels_at_boot s.system) covers.labels first.labels;
+  labels = at_least_joined y.labels x.labels (labels_at_boot s) covers.labels first.labels;
 }
 
 pub nodes_are_kept : NodesAreKept

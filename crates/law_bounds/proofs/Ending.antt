@@ -16,8 +16,8 @@ use Rattle.law_bounds.specs.RunTicks.{age_at}
 use Rattle.law_bounds.proofs.RunTicks.{age_is}
 
 -- where no label shows more in a tick, no job is older in it
-pub none_older : (S : System) (mode : ℕ) (arrivals : List Arrival) (k most n since : ℕ) (job : JobId)
-    → IsProper S → k < length S.tasks → (run S mode arrivals n).state.over ≡ false
+pub none_older : (S : System) (mode : ℕ) (arrivals : List Arrival) (k most n since : ℕ)
+    (job : JobId) → IsProper S → k < length S.tasks → (run S mode arrivals n).state.over ≡ false
     → IsAtMost most (age_at S mode arrivals k n) → job.task ≡ k
     → IsReadySince S mode arrivals n job since → n < since + most
 none_older S mode arrivals k most n since job proper known going low of ready =
@@ -25,8 +25,9 @@ none_older S mode arrivals k most n since job proper known going low of ready =
     (subst (IsAtMost most) (age_is S mode arrivals proper k n going) low) of ready
 
 pub bounded_jobs_end : BoundedJobsEnd
-bounded_jobs_end S mode distances cap peaks k proper bounds known below arrivals n since job keep
+bounded_jobs_end S mode rules cap peaks k proper bounds known below arrivals n since job keep
     going of ready =
-    none_older S mode arrivals k (told peaks (figure Measure.Response k)) n since job proper known going
-    (((bounds (suc n)).ticks arrivals n (omega arith) keep going).figures (figure Measure.Response k)
-    (lt-ltb _ _ known) (lt-ltb _ _ below)) of ready
+    none_older S mode arrivals k (told peaks (figure Measure.Response k)) n since job proper known
+    going
+    (((bounds (suc n)).ticks arrivals n (omega arith) keep going).figures
+    (figure Measure.Response k) (lt-ltb _ _ known) (lt-ltb _ _ below)) of ready

@@ -74,7 +74,8 @@ module _ (S : System) (need : Need) (proper : IsProper S) (enough : Suffices S n
 
     by_datas : AreShownAlike S tick_between other_tick
     by_datas =
-        same_needed_show S need false arrived (at_time_of p o) p enough held_between held_too by_data
+        same_needed_show S need false arrived (at_time_of p o) p enough held_between held_too
+        by_data
 
     alike_seen : seen_in S arrived o ≡ seen_in S arrived p
     unfolding seen_in

@@ -3,6 +3,8 @@ pub mod Ordered
 pub mod Covering
 pub mod Capped
 pub mod Counted
+pub mod Arriving
+pub mod Known
 pub mod Arrived
 pub mod Going
 pub mod Seen
@@ -17,9 +19,8 @@ pub mod Showing
 pub mod Bounding
 pub mod Trying
 pub mod Lost
-pub mod Arriving
-pub mod Known
-pub mod Spacing
+pub mod Comings
+pub mod Twice
 pub mod Rounds
 pub mod Ending
 pub mod Releasing

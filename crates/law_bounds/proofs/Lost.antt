@@ -2,14 +2,15 @@
 use Rattle.std.proofs.Common.{ℕ, ◌≡◌, ◌<◌, ◌≤◌, ◌-◌, inl, inr, Bool, true, false, cond, ◌||◌, ◌&&◌, List, ◌++◌, map, length, get_or, zero, suc, Option, Some, None, refl, sym, ◌∙◌, ap, subst, arith, ltb-true, true≢false}
 use Rattle.std.proofs.Math.Path.{fun_ext}
 use Rattle.std.specs.Prelude.{IsTrue, min, nat_lt}
-use Rattle.std.specs.Int.{bit_at}
 use Rattle.std.specs.Option.{option_map}
-use Rattle.std.proofs.lemmas.Bool.{cases_lt, eqb-true}
+use Rattle.std.proofs.lemmas.Bool.{cases_lt}
 use Rattle.std.proofs.lemmas.List.{ext_get_or, get_or_past}
-use Rattle.std.proofs.lemmas.Nat.Bits.{bit_at_above}
 use Rattle.osek_base.specs.Alarm.{due_alarms}
 use Rattle.osek_base.specs.Lists.{below, is_in}
 use Rattle.osek_base.specs.Tick.{flagged}
+use Rattle.arrival_rules.specs.declared.rule.ArrivalRule.{ArrivalRule}
+use Rattle.arrival_rules.specs.Rules.{rule_at}
+use Rattle.arrival_rules.specs.Debts.{next_debt}
 use Rattle.law_kept.specs.Kept.{Kept}
 use Rattle.law_kept.specs.KeptService.{bare}
 use Rattle.law_kept.specs.KeptTick.{KeptStep, alarm_phase_in, before_execution_in, start_phase_in, tick_in}
@@ -31,13 +32,13 @@ use Rattle.law_figures.specs.Labels.{IsAtMost}
 use Rattle.law_figures.specs.Times.{waited}
 use Rattle.search_keys.specs.Key.{key}
 use Rattle.search_labels.specs.Ticks.{routine_in, routine_tick}
-use Rattle.search_labels.specs.Labels.{IsAtLeast, Labels, arrives_in, distance_of, next_labels, next_pending, next_wait, pending_of, wait_of}
+use Rattle.search_labels.specs.Labels.{IsAtLeast, Labels, arrives_in, debt_next, debt_of, next_labels, next_pending, pending_of}
 use Rattle.view_measures.specs.declared.measure.Measure.{Measure}
 use Rattle.view_measures.specs.Measures.{figure}
 use Rattle.search_peaks.specs.Noting.{IsNoted, TickShown, is_seen, reading_by}
 use Rattle.search_peaks.specs.Peaks.{Peaks, told}
 use Rattle.law_bounds.specs.Lost.{IsWithoutLost, LostChangeNothing}
-use Rattle.law_bounds.specs.Nodes.{IsAfter, May, Node, Setting, routines_of, tick_shown_from}
+use Rattle.law_bounds.specs.Nodes.{IsAfter, Node, Setting, routines_of, tick_shown_from}
 use Rattle.law_bounds.proofs.Counted.{times_of}
 use Rattle.law_bounds.proofs.Ordered.{at_least_itself, at_least_joined}
 use Rattle.law_bounds.proofs.Seen.{seen_routines}
@@ -59,12 +60,13 @@ same_unlost true false come less lost none =
 same_unlost false true come less lost none = less refl
 same_unlost false false come less lost none = refl
 
-sooner_by : (b c : Bool) (distance wait : ℕ) → (c ≡ true → b ≡ true)
-    → (b ≡ true → c ≡ false → wait ≡ 0) → cond c distance wait - 1 ≤ cond b distance wait - 1
-sooner_by true true distance wait less free = omega arith
-sooner_by true false distance wait less free = let none = free refl refl in omega (arith, none)
-sooner_by false true distance wait less free = absurd (true≢false (sym (less refl)))
-sooner_by false false distance wait less free = omega arith
+-- fewer interrupts owe no more
+owe_less : (rule : ArrivalRule) (b c : Bool) (debt : ℕ) → (c ≡ true → b ≡ true)
+    → next_debt rule c debt ≤ next_debt rule b debt
+owe_less rule true true debt less = omega arith
+owe_less rule true false debt less = omega arith
+owe_less rule false true debt less = absurd (true≢false (sym (less refl)))
+owe_less rule false false debt less = omega arith
 
 -- ---- the tick
 
@@ -295,36 +297,37 @@ module _ (shown : TickShown) (others : List RoutineSeen) where
         (next_alike (routine_tick with_others.seen i) (routine_tick shown.seen i) (pend i)
         (start i) (pending_of l i))
 
-    -- where fewer routines arrive, none has to wait for longer
-    labels_alike : (lower : ℕ → Bool) (cap : ℕ) (distances : List ℕ) (set fewer : ℕ) (l : Labels)
-        → ((i : ℕ) → next_wait distances fewer l i ≤ next_wait distances set l i)
-        → IsAtLeast (next_labels lower cap distances fewer with_others.seen l)
-        (next_labels lower cap distances set shown.seen l)
-    labels_alike lower cap distances set fewer l sooner =
-        let count = length l.waits in
-        let mine : Labels = next_labels lower cap distances fewer with_others.seen l in
-        let theirs : Labels = next_labels lower cap distances set shown.seen l in
-        let long = length-table (next_wait distances fewer l) count in
-        let wide = length-table (next_wait distances set l) count in
+    -- where fewer routines arrive, no more is owed by a rule
+    labels_alike : (lower : ℕ → Bool) (cap : ℕ) (rules : List ArrivalRule) (set fewer : ℕ)
+        (l : Labels)
+        → ((n : ℕ) → debt_next rules fewer l n ≤ debt_next rules set l n)
+        → IsAtLeast (next_labels lower cap rules fewer with_others.seen l)
+        (next_labels lower cap rules set shown.seen l)
+    labels_alike lower cap rules set fewer l sooner =
+        let count = length l.debts in
+        let mine : Labels = next_labels lower cap rules fewer with_others.seen l in
+        let theirs : Labels = next_labels lower cap rules set shown.seen l in
+        let long = length-table (debt_next rules fewer l) count in
+        let wide = length-table (debt_next rules set l) count in
         let itself = at_least_itself mine in
         let same : mine.pending ≡ theirs.pending =
         ap (λ (next : ℕ → Option ℕ). map next (below (length l.pending)))
         (fun_ext (pending_alike cap l)) in
         record {
-          routines = long ∙ sym wide;
+          rules = long ∙ sym wide;
           tasks = itself.tasks;
           interrupts = ap length same;
           resources = itself.resources;
           blockable = itself.blockable;
-          sooner = λ i. elim (cases_lt i count) [
+          sooner = λ n. elim (cases_lt n count) [
             | inl low ↦
-                let here = table_at (next_wait distances fewer l) count i 0 low in
-                let there = table_at (next_wait distances set l) count i 0 low in
-                let less = sooner i in
+                let here = table_at (debt_next rules fewer l) count n 0 low in
+                let there = table_at (debt_next rules set l) count n 0 low in
+                let less = sooner n in
                 omega (arith, here, there, less)
             | inr high ↦
-                let none : wait_of mine i ≡ 0 =
-                get_or_past mine.waits i 0 (omega (arith, high, long)) in
+                let none : debt_of mine n ≡ 0 =
+                get_or_past mine.debts n 0 (omega (arith, high, long)) in
                 omega (arith, none)
           ];
           ages = itself.ages;
@@ -337,23 +340,14 @@ module _ (shown : TickShown) (others : List RoutineSeen) where
 
 -- ---- the law
 
-module _ (s : Setting) (x : Node) (set fewer : ℕ) (o : Kept) (may : May s x set)
+module _ (s : Setting) (x : Node) (set fewer : ℕ) (o : Kept)
     (without : IsWithoutLost s set fewer o) where
-  -- no bit is set beyond the routines
-  is_low : (i : ℕ) → arrives_in set i ≡ true → i < length s.system.routines
-  is_low i here = elim (cases_lt i (length s.system.routines)) [
-    | inl low ↦ low
-    | inr high ↦
-        let one : bit_at set i ≡ 1 = eqb-true (bit_at set i) 1 here in
-        let none = bit_at_above set (length s.system.routines) i may.low high in
-        absurd (omega (arith, one, none))
-  ]
-
-  sooner_without : (i : ℕ)
-      → next_wait s.distances fewer x.labels i ≤ next_wait s.distances set x.labels i
-  sooner_without i =
-      sooner_by (arrives_in set i) (arrives_in fewer i) (distance_of s.distances i)
-      (wait_of x.labels i) (without.less i) (λ here gone. may.free i (is_low i here) here)
+  sooner_without : (n : ℕ)
+      → debt_next s.rules fewer x.labels n ≤ debt_next s.rules set x.labels n
+  sooner_without n =
+      let rule : ArrivalRule = rule_at s.rules n in
+      owe_less rule (arrives_in set rule.routine) (arrives_in fewer rule.routine)
+      (debt_of x.labels n) (without.less rule.routine)
 
   abbrev all_shown : TickShown
   all_shown = tick_shown_from s set o
@@ -365,7 +359,7 @@ module _ (s : Setting) (x : Node) (set fewer : ℕ) (o : Kept) (may : May s x se
   next_without y after =
       let ticks = tick_same s set fewer o without in
       let behind = λ (t : TickShown) (arrived : ℕ). next_labels
-      (lower_executes (levels_of s.system) t.executor) s.cap s.distances arrived t.seen x.labels in
+      (lower_executes (levels_of s.system) t.executor) s.cap s.rules arrived t.seen x.labels in
       record {
         key = ap (λ (t : KeptStep). key s.system s.need t.after) ticks ∙ after.key;
         over = ap (λ (t : KeptStep). t.after.over) ticks ∙ after.over;
@@ -376,7 +370,7 @@ module _ (s : Setting) (x : Node) (set fewer : ℕ) (o : Kept) (may : May s x se
             (sym (shown_same s set fewer o without)) after.labels)
             (labels_alike all_shown fewer_seen (pending_same s set fewer o without)
             (started_same s set fewer o without)
-            (lower_executes (levels_of s.system) all_shown.executor) s.cap s.distances set fewer
+            (lower_executes (levels_of s.system) all_shown.executor) s.cap s.rules set fewer
             x.labels sooner_without);
       }
 
@@ -401,6 +395,6 @@ module _ (s : Setting) (x : Node) (set fewer : ℕ) (o : Kept) (may : May s x se
 
 pub lost_change_nothing : LostChangeNothing
 lost_change_nothing s x set fewer o may without = record {
-  next = next_without s x set fewer o may without;
-  noted = noted_without s x set fewer o may without;
+  next = next_without s x set fewer o without;
+  noted = noted_without s x set fewer o without;
 }

@@ -8,7 +8,7 @@ use Rattle.search_labels.specs.Labels.{Labels, IsAtLeast, ages_of, blocked_of, h
 
 pub at_least_itself : (l : Labels) → IsAtLeast l l
 at_least_itself l = record {
-  routines = refl;
+  rules = refl;
   tasks = refl;
   interrupts = refl;
   resources = refl;
@@ -22,7 +22,7 @@ at_least_itself l = record {
 
 pub at_least_joined : (l m n : Labels) → IsAtLeast l m → IsAtLeast m n → IsAtLeast l n
 at_least_joined l m n first second = record {
-  routines = first.routines ∙ second.routines;
+  rules = first.rules ∙ second.rules;
   tasks = first.tasks ∙ second.tasks;
   interrupts = first.interrupts ∙ second.interrupts;
   resources = first.resources ∙ second.resources;

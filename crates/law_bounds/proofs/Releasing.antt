@@ -31,8 +31,9 @@ none_longer S mode arrivals r most n since job proper known going low holds =
     omega (arith, past, least)
 
 pub bounded_holds_end : BoundedHoldsEnd
-bounded_holds_end S mode distances cap peaks r proper bounds known below arrivals n since job keep
+bounded_holds_end S mode rules cap peaks r proper bounds known below arrivals n since job keep
     going holds =
-    none_longer S mode arrivals r (told peaks (figure Measure.Hold r)) n since job proper known going
+    none_longer S mode arrivals r (told peaks (figure Measure.Hold r)) n since job proper known
+    going
     (((bounds (suc n)).ticks arrivals n (omega arith) keep going).figures (figure Measure.Hold r)
     (lt-ltb _ _ known) (lt-ltb _ _ below)) holds

@@ -5,6 +5,8 @@ use Rattle.osek_base.specs.declared.arrivals.Arrival.{Arrival}
 use Rattle.osek_base.specs.Proper.{IsProper}
 use Rattle.osek_base.specs.System.{System}
 use Rattle.osek_base.specs.Trace.{Run, arriving, run}
+use Rattle.arrival_rules.specs.declared.rule.ArrivalRule.{ArrivalRule}
+use Rattle.arrival_rules.specs.Rules.{KeepRules, comings, rule_at}
 use Rattle.law_runs.proofs.Arriving.{depends_on_the_past}
 use Rattle.law_kept.specs.Kept.{Kept, kept}
 use Rattle.law_kept.specs.KeptTick.{tick_in}
@@ -21,11 +23,10 @@ use Rattle.search_keys.specs.Key.{key}
 use Rattle.law_bounds.specs.Going.{GoOnAlike, HaveOneFuture, KeysTellFutures}
 use Rattle.law_bounds.specs.Nodes.{Comes}
 use Rattle.law_bounds.specs.Unending.{StandsSoLong, Stands, StandsBetween}
-use Rattle.law_bounds.specs.Distances.{KeepDistances}
 use Rattle.law_bounds.specs.Lassos.{GoesOn, IsLasso, LassosAreEndless, again, rounds}
 use Rattle.law_bounds.proofs.Arriving.{first_round, second_round}
 use Rattle.law_bounds.proofs.Known.{known_in}
-use Rattle.law_bounds.proofs.Spacing.{again_before, keep_twice}
+use Rattle.law_bounds.proofs.Twice.{again_before, keep_twice, second_many}
 
 -- a tick that shows what another one shows, from a state that is over as that one is
 stands_as : (S : System) (mode : ℕ) (xs ys : List Arrival) (t u k : ℕ)
@@ -39,10 +40,11 @@ stands_as S mode xs ys t u k over seen stands = record {
   stays = ap (λ (x : Seen). leaves (task_tick x k)) (sym seen) ∙ stands.stays;
 }
 
-module _ (futures : KeysTellFutures) (S : System) (mode : ℕ) (distances : List ℕ) (need : Need)
-    (k : ℕ) (proper : IsProper S) (enough : Suffices S need) (own : NeedsOwnWords S need) where
+module _ (futures : KeysTellFutures) (S : System) (mode : ℕ) (rules : List ArrivalRule)
+    (need : Need) (k : ℕ) (proper : IsProper S) (enough : Suffices S need)
+    (own : NeedsOwnWords S need) where
   abbrev Lasso : List Arrival → ℕ → ℕ → Type 0
-  Lasso arrivals from until = IsLasso S mode distances need arrivals from until k
+  Lasso arrivals from until = IsLasso S mode rules need arrivals from until k
 
   module _ (xs : List Arrival) (from until : ℕ) (lasso : Lasso xs from until) where
     abbrev ys : List Arrival
@@ -142,6 +144,15 @@ module _ (futures : KeysTellFutures) (S : System) (mode : ℕ) (distances : List
 
     -- ---- so it can be gone on
 
+    pays_again : (n : ℕ) → comings ys (rule_at rules n).routine until (until + ticks - until)
+        * (rule_at rules n).period ≤ until + ticks - until
+    pays_again n =
+        let rule : ArrivalRule = rule_at rules n in
+        let same : ticks ≡ until + ticks - until = omega arith in
+        subst (λ m. comings ys rule.routine until m * rule.period ≤ m) same
+        (subst (λ m. m * rule.period ≤ ticks)
+        (sym (second_many from until xs lasso.less lasso.before rule.routine)) (lasso.pays n))
+
     pub next_lasso : Lasso ys until (until + ticks)
     next_lasso =
         let less = lasso.less in
@@ -151,13 +162,15 @@ module _ (futures : KeysTellFutures) (S : System) (mode : ℕ) (distances : List
           key = equal_at ticks until (until + ticks) (omega (arith, less)) refl (omega arith);
           stands = stands_on;
           keep = lasso.again;
-          again = keep_twice S distances from until xs lasso.less lasso.before lasso.again;
+          again =
+              keep_twice S rules from until xs lasso.less lasso.before lasso.again lasso.pays;
+          pays = pays_again;
         }
 
   -- ---- round by round
 
   keeps : (n from until : ℕ) (xs : List Arrival) → Lasso xs from until
-      → KeepDistances S distances (rounds n from until xs)
+      → KeepRules S rules (rounds n from until xs)
   keeps zero from until xs lasso = lasso.keep
   keeps (suc n) from until xs lasso =
       keeps n until (until + (until - from)) (again from until xs)
@@ -191,7 +204,7 @@ module _ (futures : KeysTellFutures) (S : System) (mode : ℕ) (distances : List
       (next_lasso xs from until lasso) (stands_longer xs from until start lasso stands))
 
   goes_on : (xs : List Arrival) (from until : ℕ) → Lasso xs from until
-      → GoesOn S mode distances xs from until k
+      → GoesOn S mode rules xs from until k
   goes_on xs from until lasso = record {
     keep = λ n. keeps n from until xs lasso;
     stands = λ n. stand_on n from until from xs lasso lasso.stands;
@@ -206,7 +219,7 @@ module _ (futures : KeysTellFutures) (S : System) (mode : ℕ) (distances : List
       omega (arith, less, before, more)
 
   is_kept : (from until n : ℕ) (xs : List Arrival) → Lasso xs from until
-      → StandsSoLong S mode distances k n
+      → StandsSoLong S mode rules k n
   is_kept from until n xs lasso = record {
     arrivals = rounds n from until xs;
     from = from;
@@ -217,10 +230,10 @@ module _ (futures : KeysTellFutures) (S : System) (mode : ℕ) (distances : List
   }
 
 pub lassos_are_endless : KeysTellFutures → LassosAreEndless
-lassos_are_endless futures S mode distances need arrivals from until k proper enough own lasso =
+lassos_are_endless futures S mode rules need arrivals from until k proper enough own lasso =
     record {
       goes_on =
-          goes_on futures S mode distances need k proper enough own arrivals from until lasso;
+          goes_on futures S mode rules need k proper enough own arrivals from until lasso;
       ever = λ n.
-          is_kept futures S mode distances need k proper enough own from until n arrivals lasso;
+          is_kept futures S mode rules need k proper enough own from until n arrivals lasso;
     }

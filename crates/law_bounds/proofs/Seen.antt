@@ -1,5 +1,5 @@
--- What is seen from the state before a tick of a run, by the routines that arrive in it, is what the
--- tick shows, as far as labels go by it.
+-- What is seen from the state before a tick of a run, by the routines that arrive in it, is what
+-- the tick shows, as far as labels go by it.
 use Rattle.std.proofs.Common.{ℕ, ◌≡◌, ◌<◌, ◌+◌, Bool, true, false, cond, not, ◌&&◌, List, [], ◌∷◌, length, Option, None, refl, sym, ◌∙◌, ap}
 use Rattle.std.specs.Prelude.{slice_index_or}
 use Rattle.std.specs.Option.{option_map}
@@ -74,7 +74,8 @@ module _ (S : System) (chosen : List ℕ) (o : Kept) where
       → routine_in (seen_in S chosen o) k ≡ routine_seen_in (ticked_in S false chosen o) k
   unfolding seen_in
   routine_at k low =
-      table_at (routine_seen_in (ticked_in S false chosen o)) (length S.routines) k unseen_routine low
+      table_at (routine_seen_in (ticked_in S false chosen o)) (length S.routines) k unseen_routine
+      low
 
   alarm_at : (k : ℕ) → k < length S.alarms
       → alarm_in (seen_in S chosen o) k ≡ alarm_seen_in (ticked_in S false chosen o) k

@@ -1,12 +1,14 @@
 -- Labels that are at least those of a run, up to a cap, stay so in each tick.
-use Rattle.std.proofs.Common.{ℕ, zero, suc, ◌≡◌, ◌<◌, ◌≤◌, ◌-◌, Bool, true, false, cond, min, List, [], replicate, length, get_or, Option, None, sym, ◌∙◌, ap, subst, subst₂, arith}
+use Rattle.std.proofs.Common.{ℕ, zero, suc, ◌≡◌, ◌<◌, ◌≤◌, Bool, true, false, min, List, [], replicate, length, get_or, Option, None, sym, ◌∙◌, ap, subst, subst₂, arith}
+use Rattle.std.specs.List.{AllByRecursion}
 use Rattle.std.proofs.lemmas.List.{length-replicate}
 use Rattle.osek_base.specs.declared.arrivals.Arrival.{Arrival}
 use Rattle.osek_base.specs.System.{System}
+use Rattle.arrival_rules.specs.declared.rule.ArrivalRule.{ArrivalRule}
+use Rattle.arrival_rules.specs.Rules.{comes, rule_at}
+use Rattle.arrival_rules.specs.Debts.{debt_after, next_debt}
 use Rattle.seen_ticks.specs.Seen.{Seen}
 use Rattle.law_future.specs.Alike.{kept_after}
-use Rattle.law_future.specs.Covering.{waits_after}
-use Rattle.law_future.specs.Shown.{arrives}
 use Rattle.law_future.proofs.Tables.{length-table, table_at}
 use Rattle.view_figures.specs.FigureSums.{held_count}
 use Rattle.law_figures.specs.Ages.{AreOlder, ages, ages_next}
@@ -17,10 +19,10 @@ use Rattle.law_figures.proofs.AgeOrder.{ages_keep_order}
 use Rattle.law_figures.proofs.Pending.{pending_keeps_order}
 use Rattle.law_figures.proofs.Holding.{holding_keeps_order}
 use Rattle.law_figures.specs.RunFigures.{holder_ticks, label_before, routine_ticks, task_ticks}
-use Rattle.search_labels.specs.Labels.{IsAtLeast, Labels, ages_of, blocked_of, capped_hold, distance_of, hold_of, next_ages, next_blocked, next_hold, next_labels, next_pending, next_wait, no_hold, pending_of, wait_of}
+use Rattle.search_labels.specs.Labels.{IsAtLeast, Labels, ages_of, blocked_of, capped_hold, debt_next, debt_of, hold_of, next_ages, next_blocked, next_hold, next_labels, next_pending, no_hold, pending_of}
 use Rattle.search_labels.specs.Ticks.{blocked_tick, holder_tick, routine_tick, task_tick}
 use Rattle.law_bounds.specs.Nodes.{Setting, labels_at_boot, lower_from, routines_of, seen_from}
-use Rattle.law_bounds.proofs.Arrived.{StandFor, in_set, set_at}
+use Rattle.law_bounds.proofs.Arrived.{StandFor, arrive_alike, set_at}
 use Rattle.law_bounds.proofs.Capped.{ages_step, blocked_step, capped_age, capped_ages, holds_step, pending_step}
 use Rattle.law_bounds.proofs.Seen.{ages_agree, blocked_agrees, holds_agree, pending_agrees}
 
@@ -30,8 +32,8 @@ module _ (s : Setting) (arrivals : List Arrival) where
 
   -- ---- the labels of a run before a tick
 
-  abbrev pub waits_at : ℕ → ℕ → ℕ
-  waits_at n = waits_after (distance_of s.distances) arrivals n
+  abbrev pub debts_at : ℕ → ℕ → ℕ
+  debts_at n m = debt_after (rule_at s.rules m) arrivals n
 
   abbrev pub ages_at : ℕ → ℕ → List ℕ
   ages_at k n = label_before ages (task_ticks S s.mode arrivals k) n
@@ -47,12 +49,12 @@ module _ (s : Setting) (arrivals : List Arrival) where
 
   -- labels are at least those, up to the cap
   pub record AreBoundsAt (n : ℕ) (l : Labels) : Type 0 where
-    pub routines : length l.waits ≡ length S.routines
+    pub rules : length l.debts ≡ length s.rules
     pub tasks : length l.ages ≡ length S.tasks
     pub interrupts : length l.pending ≡ length S.routines
     pub resources : length l.holds ≡ held_count S
     pub blockable : length l.blocked ≡ length S.tasks
-    pub sooner : (i : ℕ) → i < length S.routines → wait_of l i ≤ waits_at n i
+    pub sooner : (m : ℕ) → m < length s.rules → debt_of l m ≤ debts_at n m
     pub ages : (k : ℕ) → k < length S.tasks
         → AreOlder (ages_of l k) (capped_ages s.cap (ages_at k n))
     pub pending : (i : ℕ) → i < length S.routines
@@ -65,14 +67,14 @@ module _ (s : Setting) (arrivals : List Arrival) where
 
   pub at_least : (n : ℕ) (l m : Labels) → IsAtLeast l m → AreBoundsAt n m → AreBoundsAt n l
   at_least n l m more bounds = record {
-    routines = more.routines ∙ bounds.routines;
+    rules = more.rules ∙ bounds.rules;
     tasks = more.tasks ∙ bounds.tasks;
     interrupts = more.interrupts ∙ bounds.interrupts;
     resources = more.resources ∙ bounds.resources;
     blockable = more.blockable ∙ bounds.blockable;
-    sooner = λ i low.
-        let one = more.sooner i in
-        let other = bounds.sooner i low in
+    sooner = λ r low.
+        let one = more.sooner r in
+        let other = bounds.sooner r low in
         omega (arith, one, other);
     ages =
         λ k low. ages_keep_order.order.joined (ages_of l k) (ages_of m k)
@@ -89,22 +91,22 @@ module _ (s : Setting) (arrivals : List Arrival) where
         omega (arith, one, other);
   }
 
-  no_wait : (i : ℕ) → wait_of (labels_at_boot S) i ≤ 0
-  no_wait i = zeros (length S.routines) i
+  no_debt : (m : ℕ) → debt_of (labels_at_boot s) m ≤ 0
+  no_debt m = zeros (length s.rules) m
     where
       zeros : (n i : ℕ) → get_or (replicate n 0) i 0 ≤ 0
       zeros zero i = omega arith
       zeros (suc n) zero = omega arith
       zeros (suc n) (suc i) = zeros n i
 
-  pub boot_bounds : AreBoundsAt 0 (labels_at_boot S)
+  pub boot_bounds : AreBoundsAt 0 (labels_at_boot s)
   boot_bounds = record {
-    routines = length-replicate (length S.routines) 0;
+    rules = length-replicate (length s.rules) 0;
     tasks = length-replicate (length S.tasks) [];
     interrupts = length-replicate (length S.routines) None;
     resources = length-replicate (held_count S) no_hold;
     blockable = length-replicate (length S.tasks) 0;
-    sooner = λ i low. no_wait i;
+    sooner = λ m low. no_debt m;
     ages = λ k low. tt;
     pending = λ i low. tt;
     holds = λ r low t. omega arith;
@@ -113,7 +115,14 @@ module _ (s : Setting) (arrivals : List Arrival) where
 
   -- ---- a tick
 
+  -- with the debt before a tick grows the one behind it
+  debt_grows : (rule : ArrivalRule) (come : Bool) (d e : ℕ) → d ≤ e
+      → next_debt rule come d ≤ next_debt rule come e
+  debt_grows rule true d e less = omega (arith, less)
+  debt_grows rule false d e less = omega (arith, less)
+
   module _ (n : ℕ) (l : Labels) (bounds : AreBoundsAt n l)
+      (known : AllByRecursion (λ (a : Arrival). a.routine < length S.routines) arrivals)
       (stand : StandFor S s.mode arrivals n (routines_of s (set_at S arrivals n))) where
     abbrev set : ℕ
     set = set_at S arrivals n
@@ -125,23 +134,19 @@ module _ (s : Setting) (arrivals : List Arrival) where
     lower = lower_from s set (kept_after S s.mode arrivals n)
 
     abbrev next : Labels
-    next = next_labels lower s.cap s.distances set seen l
+    next = next_labels lower s.cap s.rules set seen l
 
-    waits_less : (chosen : Bool) (d m k : ℕ) → m ≤ k → cond chosen d m - 1 ≤ cond chosen d k - 1
-    waits_less true d m k low = omega arith
-    waits_less false d m k low = omega (arith, low)
-
-    sooner : (i : ℕ) → i < length S.routines → wait_of next i ≤ waits_at (suc n) i
-    sooner i low =
-        let size = bounds.routines in
-        let here : wait_of next i ≡ next_wait s.distances set l i =
-        table_at (next_wait s.distances set l) (length l.waits) i 0 (omega (arith, low, size)) in
-        let less : next_wait s.distances set l i ≤ waits_at (suc n) i =
-        subst
-        (λ (b : Bool). cond b (distance_of s.distances i) (wait_of l i) - 1 ≤ waits_at (suc n) i)
-        (sym (in_set S arrivals n i low))
-        (waits_less (arrives arrivals n i) (distance_of s.distances i) (wait_of l i) (waits_at n i)
-        (bounds.sooner i low)) in
+    sooner : (m : ℕ) → m < length s.rules → debt_of next m ≤ debts_at (suc n) m
+    sooner m low =
+        let size = bounds.rules in
+        let rule : ArrivalRule = rule_at s.rules m in
+        let here : debt_of next m ≡ debt_next s.rules set l m =
+        table_at (debt_next s.rules set l) (length l.debts) m 0 (omega (arith, low, size)) in
+        let less : debt_next s.rules set l m ≤ debts_at (suc n) m =
+        subst (λ (b : Bool). next_debt rule b (debt_of l m) ≤ debts_at (suc n) m)
+        (sym (arrive_alike S arrivals n known rule.routine))
+        (debt_grows rule (comes arrivals rule.routine n) (debt_of l m) (debts_at n m)
+        (bounds.sooner m low)) in
         omega (arith, here, less)
 
     older : (k : ℕ) → k < length S.tasks
@@ -200,8 +205,7 @@ module _ (s : Setting) (arrivals : List Arrival) where
 
     pub tick_bounds : AreBoundsAt (suc n) next
     tick_bounds = record {
-      routines =
-          length-table (next_wait s.distances set l) (length l.waits) ∙ bounds.routines;
+      rules = length-table (debt_next s.rules set l) (length l.debts) ∙ bounds.rules;
       tasks = length-table (next_ages s.cap seen l) (length l.ages) ∙ bounds.tasks;
       interrupts =
           length-table (next_pending s.cap seen l) (length l.pending) ∙ bounds.interrupts;

@@ -25,7 +25,7 @@ none_later S mode arrivals k most since proper known going low is =
     (subst (IsAtMost most) (waited_is S mode arrivals proper k (since + most) going) low) is
 
 pub bounded_interrupts_start : BoundedInterruptsStart
-bounded_interrupts_start S mode distances cap peaks proper bounds k known below arrivals since keep
+bounded_interrupts_start S mode rules cap peaks proper bounds k known below arrivals since keep
     going is =
     let most = told peaks (figure Measure.Latency k) in
     none_later S mode arrivals k most since proper known going

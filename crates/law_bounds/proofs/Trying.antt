@@ -10,7 +10,7 @@ use Rattle.view_figures.specs.FigureSums.{levels_of, lower_executes}
 use Rattle.search.specs.Subsets.{IsSubset}
 use Rattle.search.proofs.SubsetLemmas.{subset_within}
 use Rattle.search_keys.specs.InRange.{NeedsOwnWords}
-use Rattle.search_labels.specs.Labels.{IsAtLeast, arrives_in, next_labels, wait_of}
+use Rattle.search_labels.specs.Labels.{IsAtLeast, arrives_in, next_labels}
 use Rattle.search_peaks.specs.Noting.{IsNoted, TickShown}
 use Rattle.law_bounds.specs.Going.{GoOnAlike, HaveOneFuture, KeysTellFutures}
 use Rattle.law_bounds.specs.Nodes.{May, Node, Setting, StandsFor, routines_of, tick_shown_from}
@@ -54,7 +54,7 @@ one_state_tells futures s x set o proper enough own going stands = record {
         labels =
             subst
             (λ (t : TickShown). IsAtLeast y.labels
-            (next_labels (lower_executes (levels_of s.system) t.executor) s.cap s.distances set
+            (next_labels (lower_executes (levels_of s.system) t.executor) s.cap s.rules set
             t.seen x.labels))
             (shown_as futures s x set o proper enough own going stands p too) after.labels;
       };
@@ -66,7 +66,7 @@ one_state_tells futures s x set o proper enough own going stands = record {
 -- ---- sets
 
 module _ (s : Setting) (x : Node) (whole : ℕ) (going : x.over ≡ false)
-    (free : AreFree (length s.system.routines) x.labels whole) where
+    (free : AreFree (length s.system.routines) s.rules x.labels whole) where
   subset_may : (set : ℕ) → IsSubset set whole → May s x set
   subset_may set is = record {
     going = going;
@@ -79,18 +79,16 @@ module _ (s : Setting) (x : Node) (whole : ℕ) (going : x.over ≡ false)
         let less = is i in
         let small = bit_at-lt whole i in
         let all : bit_at whole i ≡ 1 = omega (arith, bit, less, small) in
-        eqb-true (wait_of x.labels i) 0
-        (sym (free.has i low) ∙ eq-eqb (bit_at whole i) 1 all);
+        free.free i (eq-eqb (bit_at whole i) 1 all);
   }
 
   may_subset : (set : ℕ) → May s x set → IsSubset set whole
   may_subset set may thing = elim (cases_lt thing (length s.system.routines)) [
     | inl low ↦ elim (cases_eq (bit_at set thing) 1) [
       | inl here ↦
-          let none = may.free thing low (eq-eqb (bit_at set thing) 1 here) in
           let all : bit_at whole thing ≡ 1 =
           eqb-true (bit_at whole thing) 1
-          (free.has thing low ∙ eq-eqb (wait_of x.labels thing) 0 none) in
+          (free.others thing low (may.free thing low (eq-eqb (bit_at set thing) 1 here))) in
           omega (arith, here, all)
       | inr away ↦
           let small = bit_at-lt set thing in

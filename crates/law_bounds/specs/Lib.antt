@@ -1,4 +1,3 @@
-pub mod Distances
 pub mod Nodes
 pub mod Going
 pub mod RunTicks

@@ -5,20 +5,21 @@ use Rattle.osek_base.specs.Proper.{IsProper}
 use Rattle.osek_base.specs.State.{JobId}
 use Rattle.osek_base.specs.System.{System}
 use Rattle.osek_base.specs.Trace.{run}
+use Rattle.arrival_rules.specs.declared.rule.ArrivalRule.{ArrivalRule}
 use Rattle.view_figures.specs.FigureSums.{held_count}
 use Rattle.law_jobs.specs.HeldSince.{IsHeldSince}
 use Rattle.view_measures.specs.declared.measure.Measure.{Measure}
 use Rattle.view_measures.specs.Measures.{figure}
 use Rattle.search_peaks.specs.Peaks.{Peaks, told}
 use Rattle.law_bounds.specs.Bounds.{AreBounds}
-use Rattle.law_bounds.specs.Distances.{KeepDistances}
+use Rattle.arrival_rules.specs.Rules.{KeepRules}
 
--- whatever arrives that keeps the distances, a job that holds a resource since a tick doesn't do so
+-- whatever arrives that keeps the rules, a job that holds a resource since a tick doesn't do so
 -- any more at the instruction of the tick so many ticks later: it has released it, or the run has
 -- ended
-abbrev pub ReleasesWithin : System → ℕ → List ℕ → ℕ → ℕ → Type 0
-ReleasesWithin S mode distances most r =
-    (arrivals : List Arrival) (n since : ℕ) (job : JobId) → KeepDistances S distances arrivals
+abbrev pub ReleasesWithin : System → ℕ → List ArrivalRule → ℕ → ℕ → Type 0
+ReleasesWithin S mode rules most r =
+    (arrivals : List Arrival) (n since : ℕ) (job : JobId) → KeepRules S rules arrivals
     → (run S mode arrivals n).state.over ≡ false → IsHeldSince S mode arrivals n r job since
     → n < since + most
 
@@ -27,7 +28,7 @@ ReleasesWithin S mode distances most r =
 -- so it is of each resource whose longest hold is bounded below the cap
 abbrev pub BoundedHoldsEnd : Type 0
 BoundedHoldsEnd =
-    (S : System) (mode : ℕ) (distances : List ℕ) (cap : ℕ) (peaks : Peaks) (r : ℕ) → IsProper S
-    → AreBounds S mode distances cap peaks → r < held_count S
+    (S : System) (mode : ℕ) (rules : List ArrivalRule) (cap : ℕ) (peaks : Peaks) (r : ℕ) → IsProper S
+    → AreBounds S mode rules cap peaks → r < held_count S
     → told peaks (figure Measure.Hold r) < cap
-    → ReleasesWithin S mode distances (told peaks (figure Measure.Hold r)) r
+    → ReleasesWithin S mode rules (told peaks (figure Measure.Hold r)) r

@@ -1,12 +1,14 @@
 -- What a search that tries one state of each node has to know.
-use Rattle.std.specs.Prelude.{ℕ, ◌≡◌, ◌<◌, ◌^◌, ◌==◌, false, length}
+use Rattle.std.specs.Prelude.{ℕ, ◌≡◌, ◌<◌, ◌^◌, false, IsTrue, List, length}
 use Rattle.osek_base.specs.Proper.{IsProper}
+use Rattle.arrival_rules.specs.declared.rule.ArrivalRule.{ArrivalRule}
+use Rattle.arrival_rules.specs.Debts.{IsFree}
 use Rattle.law_kept.specs.Kept.{Kept}
 use Rattle.law_future.specs.Need.{Suffices}
 use Rattle.search_keys.specs.InRange.{NeedsOwnWords}
 use Rattle.search.specs.Subsets.{IsSubset}
 use Rattle.view_figures.specs.FigureSums.{levels_of}
-use Rattle.search_labels.specs.Labels.{IsAtLeast, Labels, arrives_in, wait_of}
+use Rattle.search_labels.specs.Labels.{IsAtLeast, Labels, arrives_in, debt_of}
 use Rattle.search_peaks.specs.Noting.{IsNoted}
 use Rattle.search_peaks.specs.Peaks.{Peaks}
 use Rattle.law_bounds.specs.Nodes.{AreNoted, IsAfter, IsNext, May, Node, Setting, StandsFor, tick_shown_from}
@@ -35,9 +37,11 @@ OneStateTells =
 -- ---- sets of routines
 
 -- the set of all routines that may arrive
-pub record AreFree (routines : ℕ) (l : Labels) (whole : ℕ) : Type 0 where
+pub record AreFree (routines : ℕ) (rules : List ArrivalRule) (l : Labels) (whole : ℕ)
+    : Type 0 where
   pub low : whole < 2 ^ routines
-  pub has : (i : ℕ) → i < routines → arrives_in whole i ≡ (wait_of l i == 0)
+  pub free : (i : ℕ) → IsTrue (arrives_in whole i) → IsFree rules (debt_of l) i
+  pub others : (i : ℕ) → i < routines → IsFree rules (debt_of l) i → IsTrue (arrives_in whole i)
 
 -- where the run isn't over, just its subsets may
 pub record MaySubsets (s : Setting) (x : Node) (whole : ℕ) : Type 0 where
@@ -47,4 +51,4 @@ pub record MaySubsets (s : Setting) (x : Node) (whole : ℕ) : Type 0 where
 abbrev pub SubsetsMay : Type 0
 SubsetsMay =
     (s : Setting) (x : Node) (whole : ℕ) → x.over ≡ false
-    → AreFree (length s.system.routines) x.labels whole → MaySubsets s x whole
+    → AreFree (length s.system.routines) s.rules x.labels whole → MaySubsets s x whole

@@ -8,9 +8,9 @@ ghost use Rattle.law_bounds.specs.Starting.{BoundedInterruptsStart};
 
 use crate::laws::keys_tell_futures;
 
-/// Where the greatest response of a task is bounded by so many ticks below the cap, no job of it that
-/// is ready since a tick is READY or RUNNING as many ticks later: it has ended or begun to wait by
-/// then, unless the run has ended.
+/// Where the greatest response of a task is bounded by so many ticks below the cap, no job of it
+/// that is ready since a tick is READY or RUNNING as many ticks later: it has ended or begun to
+/// wait by then, unless the run has ended.
 pub fn bounded_jobs_end()
     ensures { BoundedJobsEnd }
 {}
@@ -22,16 +22,16 @@ pub fn bounded_holds_end()
     ensures { BoundedHoldsEnd }
 {}
 
-/// Where the greatest latency of a routine is bounded by so many ticks below the cap, each interrupt
-/// of it that isn't lost has the routine started within as many ticks, unless the run is over by
-/// then.
+/// Where the greatest latency of a routine is bounded by so many ticks below the cap, each
+/// interrupt of it that isn't lost has the routine started within as many ticks, unless the run is
+/// over by then.
 pub fn bounded_interrupts_start()
     ensures { BoundedInterruptsStart }
 {}
 
 /// A run that comes twice to states of one key while a job of a task stands, and whose arrivals
-/// between can come once more, can be gone on so for as many ticks as one likes: they may come
-/// again and again.
+/// between can come once more and add no more by any rule than their ticks take off, can be gone on
+/// so for as many ticks as one likes: they may come again and again.
 pub fn lassos_are_endless()
     ensures { LassosAreEndless }
 {

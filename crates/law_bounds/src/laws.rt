@@ -30,7 +30,7 @@ pub fn labels_are_ordered()
     ensures { LabelsAreOrdered }
 {}
 
-/// The sets of routines that may arrive are the subsets of all that needn't wait.
+/// The sets of routines that may arrive are the subsets of all that are free by their rules.
 pub fn subsets_may()
     ensures { SubsetsMay }
 {}
@@ -52,13 +52,13 @@ pub fn nodes_are_kept()
 {}
 
 /// Where a search has come to its end, what it has noted bounds the figures of every run whose
-/// interrupts keep their distances, after every number of ticks.
+/// interrupts keep their rules, after every number of ticks.
 pub fn searches_bound()
     ensures { SearchesBound }
 {}
 
 /// Where a search has tried all that can come in so many ticks, what it has noted bounds the
-/// figures of every run whose interrupts keep their distances, after at most so many.
+/// figures of every run whose interrupts keep their rules, after at most so many.
 pub fn levels_bound()
     ensures { LevelsBound }
 {}

@@ -167,8 +167,8 @@ costs_fall_by_phases S mode arrivals p c known proper stays pay = record {
         (known_jobs_pay S known proper stays mode arrivals p c pay.jobs)
 
 pub costs_bound_responses : CostsBoundResponses
-costs_bound_responses S mode distances p c known least most proper stays pay later enough =
-    gaps_bound_responses S mode distances p c.costs least most proper enough
+costs_bound_responses S mode rules p c known least most proper stays pay later enough =
+    gaps_bound_responses S mode rules p c.costs least most proper enough
     (λ arrivals keep. record {
       left = λ n. left S p c (run S mode arrivals n).state;
       potential =

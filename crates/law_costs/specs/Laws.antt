@@ -4,6 +4,7 @@ use Rattle.osek_base.specs.declared.arrivals.Arrival.{Arrival}
 use Rattle.osek_base.specs.Proper.{IsProper}
 use Rattle.osek_base.specs.System.{System}
 use Rattle.osek_base.specs.Trace.{run}
+use Rattle.arrival_rules.specs.declared.rule.ArrivalRule.{ArrivalRule}
 use Rattle.law_windows.specs.Phases.{FallsByPhases}
 use Rattle.law_windows.specs.Analysis.{AreAlwaysEnough, IsBoundOf}
 use Rattle.law_windows.specs.Expiring.{most_expiries}
@@ -46,8 +47,8 @@ CostsFallByPhases =
 -- that can come are a bound of each window, and of each response
 abbrev pub CostsBoundResponses : Type 0
 CostsBoundResponses =
-    (S : System) (mode : ℕ) (distances : List ℕ) (p : ℕ) (c : Weights) (known : Known)
+    (S : System) (mode : ℕ) (rules : List ArrivalRule) (p : ℕ) (c : Weights) (known : Known)
     (least : ℕ → ℕ) (most : ℕ) → IsProper S → StaysKnown S known → Pay S mode p c known
     → AreKnownNoSooner S mode c.costs known least
-    → AreAlwaysEnough S distances c.costs (most_expiries S mode least most) most
-    → IsBoundOf S mode distances p most
+    → AreAlwaysEnough S rules c.costs (most_expiries S mode least most) most
+    → IsBoundOf S mode rules p most

@@ -15,7 +15,7 @@ pub fn costs_fall_by_phases()
 
 /// So where who is known sets alarms no sooner than is said, as many ticks as are enough for all
 /// that can come bound each window, and what lies in it, of each run whose interrupts keep their
-/// distances.
+/// rules.
 pub fn costs_bound_responses()
     ensures { CostsBoundResponses }
 {}

@@ -27,8 +27,7 @@
 //!   response (`costs_bound_responses`).
 //!
 //! Nothing is asked of runs. Left out are events that are set early, and alarms that pay when they
-//! are set. Nothing stands on this crate yet: it is the step before costs of programs, for which a
-//! table would tell what is known and what it costs.
+//! are set. `law_nodes` tells by finite tables what is known, and what pays.
 #![tactic(auto)]
 
 mod laws;

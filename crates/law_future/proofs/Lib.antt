@@ -16,7 +16,7 @@ pub mod Ticks
 pub mod Futures
 pub mod Arrivals
 pub mod AlikeIn
-pub mod Covered
 pub mod Ahead
 pub mod Same
 pub mod Sets
+pub mod Sizes

@@ -7,6 +7,5 @@ pub mod AlikeIn
 pub mod Relative
 pub mod Shown
 pub mod Spans
-pub mod Covering
 pub mod Incidents
 pub mod Masks

@@ -1,5 +1,5 @@
--- Responses of tasks, what is refused to them and the services of theirs that fail don't go by lower
--- tasks that execute, nor by blockers.
+-- Responses of tasks, what is refused to them and the services of theirs that fail don't go by
+-- lower tasks that execute, nor by blockers.
 use Rattle.std.proofs.Common.{◌≡◌, ℕ, ◌+◌, false, cond, List, [], ◌∷◌, map, refl, sym, ◌∙◌, ap, ap₂}
 use Rattle.std.specs.Prelude.{None, count_by, sum_by}
 use Rattle.std.specs.List.{fold}

@@ -7,7 +7,7 @@ use Rattle.law_bounds.proofs.Ending.{none_older}
 use Rattle.law_upper.specs.FiguresAbove.{BoundedUpperJobsEnd}
 
 pub bounded_upper_jobs_end : BoundedUpperJobsEnd
-bounded_upper_jobs_end S p mode distances cap peaks proper bounds t is below arrivals n since job
+bounded_upper_jobs_end S p mode rules cap peaks proper bounds t is below arrivals n since job
     keep going of ready =
     let most = told peaks (figure Measure.Response t) in
     none_older S mode arrivals t most n since job proper is.known going

@@ -1,5 +1,5 @@
--- A service that fails in a tick of a run whose tasks are all upper fails in that of each system that
--- agrees.
+-- A service that fails in a tick of a run whose tasks are all upper fails in that of each system
+-- that agrees.
 use Rattle.std.proofs.Common.{◌≡◌, ℕ, ◌<◌, Bool, true, false, cond, List, length, refl, sym, ◌∙◌, ap}
 use Rattle.std.specs.Prelude.{IfSome, Option, Some, None, nat_lt}
 use Rattle.osek_base.specs.declared.arrivals.Arrival.{Arrival}

@@ -9,7 +9,7 @@ use Rattle.law_upper.specs.FiguresAbove.{BoundedUpperHoldsEnd, resource_in_part}
 use Rattle.law_upper.proofs.Within.{has_thing}
 
 pub bounded_upper_holds_end : BoundedUpperHoldsEnd
-bounded_upper_holds_end S p mode distances cap peaks proper bounds r is below arrivals n since job
+bounded_upper_holds_end S p mode rules cap peaks proper bounds r is below arrivals n since job
     keep going holds =
     let most = told peaks (figure Measure.Hold (resource_in_part S p r)) in
     none_longer S mode arrivals r most n since job proper (has_thing S p Kind.Resource r is) going

@@ -10,6 +10,7 @@ use Rattle.osek_base.specs.BlockingText.{blockers_at}
 use Rattle.osek_base.specs.System.{System}
 use Rattle.osek_base.specs.Trace.{run}
 use Rattle.osek_base.specs.Upper.{is_upper_alarm, is_upper_task}
+use Rattle.arrival_rules.specs.declared.rule.ArrivalRule.{ArrivalRule}
 use Rattle.law_runs.proofs.RunSteps.{going_before}
 use Rattle.partition_check.proofs.PartAgrees.{all_upper}
 use Rattle.seen_ticks.specs.declared.observation.Observation.{Observation}
@@ -40,7 +41,7 @@ use Rattle.law_upper.proofs.Part.{itself, numbered, over_there, ticks_show}
 use Rattle.law_upper.proofs.Sides.{upper_back, with_part}
 use Rattle.law_upper.proofs.StandingAbove.{stands_there}
 use Rattle.law_upper.proofs.States.{states_are_seen_the_same}
-use Rattle.law_upper.proofs.Within.{AreNumbered, declared_held, distances_there, scheduler_held}
+use Rattle.law_upper.proofs.Within.{AreNumbered, declared_held, rules_there, scheduler_held}
 
 -- a run that isn't over before a tick isn't over before an earlier one
 going_back : (S : System) (mode : ℕ) (arrivals : List Arrival) (w d : ℕ)
@@ -288,15 +289,14 @@ module _ (P S : System) (p : ℕ) (pair : AreOneAbove P S p)
 
   -- ---- tasks that can be kept from ending
 
-  unending_there : (mode : ℕ) (distances : List ℕ) (t : ℕ) → IsUpperTask S p t
-      → NeedNotEnd P mode distances t → NeedNotEnd S mode distances t
-  unending_there mode distances t is unending count =
+  unending_there : (mode : ℕ) (rules : List ArrivalRule) (t : ℕ) → IsUpperTask S p t
+      → NeedNotEnd P mode rules t → NeedNotEnd S mode rules t
+  unending_there mode rules t is unending count =
       let so_long = unending count in
       record {
         arrivals = so_long.arrivals;
         from = so_long.from;
-        keep =
-            distances_there P S distances so_long.arrivals (sym numbers.routines) so_long.keep;
+        keep = rules_there P S rules so_long.arrivals (sym numbers.routines) so_long.keep;
         stands = λ u late early.
             stands_there P S p pair shown over mode so_long.arrivals u t (upper t is)
             (so_long.stands u late early);
@@ -304,8 +304,8 @@ module _ (P S : System) (p : ℕ) (pair : AreOneAbove P S p)
 
   shows : ShowsWhatThePartShows P S p
   shows = record {
-    keep = λ distances arrivals keep.
-        distances_there P S distances arrivals (sym numbers.routines) keep;
+    keep = λ rules arrivals keep.
+        rules_there P S rules arrivals (sym numbers.routines) keep;
     over = over;
     figures = figures_there;
     ticks = tick_shows;

@@ -40,7 +40,8 @@ module _ (S B : System) (p : ℕ) (mode : ℕ) (arrivals : List Arrival)
           labels_go_by_seen.ages (run_tick S mode arrivals t n) (run_tick B mode arrivals t n) old
           ((shown mode arrivals n going).tasks t is)
 
-  pub waits_same : (i n : ℕ) → Goes n → waited_at S mode arrivals i n ≡ waited_at B mode arrivals i n
+  pub waits_same : (i n : ℕ) → Goes n
+      → waited_at S mode arrivals i n ≡ waited_at B mode arrivals i n
   waits_same i =
       shown_alike pending waited (run_routine S mode arrivals i) (run_routine B mode arrivals i)
       Goes earlier

@@ -7,7 +7,7 @@ use Rattle.law_bounds.proofs.Starting.{none_later}
 use Rattle.law_upper.specs.StartingAbove.{BoundedInterruptsStartAbove}
 
 pub interrupts_start_above : BoundedInterruptsStartAbove
-interrupts_start_above S p mode distances cap peaks proper bounds k known below arrivals since keep
+interrupts_start_above S p mode rules cap peaks proper bounds k known below arrivals since keep
     going is =
     let most = told peaks (figure Measure.Latency k) in
     none_later S mode arrivals k most since proper known going

@@ -219,8 +219,8 @@ module _ (S B : System) (p : ℕ) (pair : AreOneAbove S B p) (n : JobId)
           (sym (ap (keep (is_upper_job S p)) runs)
           ∙ ready_kept S p n is.upper x.executing one.quiet here ∙ runs)
         where
-          by : (c : Bool) → is_upper_job S p k ≡ c → cond (is_upper_job S p k) (Some k) None ≡ Some k
-              → is_upper_job S p k ≡ true
+          by : (c : Bool) → is_upper_job S p k ≡ c
+              → cond (is_upper_job S p k) (Some k) None ≡ Some k → is_upper_job S p k ≡ true
           by true e h = e
           by false e h = absurd (none_some k (sym (ap (λ (d : Bool). cond d (Some k) None) e) ∙ h))
 

@@ -7,6 +7,8 @@ use Rattle.osek_base.specs.Agree.{is_upper_declared}
 use Rattle.osek_base.specs.System.{System}
 use Rattle.osek_base.specs.Trace.{run}
 use Rattle.osek_base.specs.Upper.{is_upper_alarm, is_upper_owner}
+use Rattle.arrival_rules.specs.declared.rule.ArrivalRule.{ArrivalRule}
+use Rattle.arrival_rules.specs.Rules.{KeepRules}
 use Rattle.seen_ticks.specs.declared.alarm_seen.AlarmSeen.{AlarmSeen}
 use Rattle.seen_ticks.specs.declared.failures.Failure.{Failure}
 use Rattle.seen_ticks.specs.declared.routine_seen.RoutineSeen.{RoutineSeen}
@@ -22,7 +24,6 @@ use Rattle.law_figures.specs.Counts.{one_if}
 use Rattle.law_figures.specs.Labels.{IsAtMost}
 use Rattle.search_peaks.specs.Peaks.{Peaks, told}
 use Rattle.law_bounds.specs.Bounds.{AreBounds, AreBoundsUpTo, IsTickWithin}
-use Rattle.law_bounds.specs.Distances.{KeepDistances}
 use Rattle.law_bounds.specs.RunTicks.{held_at}
 use Rattle.law_bounds.specs.Showing.{shown_at, shown_by}
 use Rattle.law_bounds.proofs.Showing.{going_at, value_within}
@@ -43,13 +44,13 @@ pub record AreNumbered (S B : System) (p : ℕ) : Type 0 where
   pub alarms : (a : ℕ) → a < length S.alarms → IsTrue (is_upper_alarm S p a)
       → IsTheSameAlarm S B p a (alarm_in_part S p a)
 
-pub distances_there : (S B : System) (distances : List ℕ) (arrivals : List Arrival)
-    → length S.routines ≡ length B.routines → KeepDistances S distances arrivals
-    → KeepDistances B distances arrivals
-distances_there S B distances arrivals routines keep = record {
+pub rules_there : (S B : System) (rules : List ArrivalRule) (arrivals : List Arrival)
+    → length S.routines ≡ length B.routines → KeepRules S rules arrivals
+    → KeepRules B rules arrivals
+rules_there S B rules arrivals routines keep = record {
   known =
       subst (λ m. AllByRecursion (λ (a : Arrival). a.routine < m) arrivals) routines keep.known;
-  spaced = λ i u v known. keep.spaced i u v (subst (λ m. i < m) (sym routines) known);
+  each = keep.each;
   once = keep.once;
 }
 
@@ -170,10 +171,10 @@ module _ (S B : System) (p : ℕ) (numbers : AreNumbered S B p) (shown : TicksSh
 
   -- ---- the law for two systems
 
-  pub bounds_there_up_to : (mode : ℕ) (distances : List ℕ) (cap : ℕ) (peaks : Peaks) (count : ℕ)
-      → AreBoundsUpTo B mode distances cap peaks count
-      → AreBoundsAboveUpTo S p mode distances cap peaks count
-  bounds_there_up_to mode distances cap peaks count bounds = record {
+  pub bounds_there_up_to : (mode : ℕ) (rules : List ArrivalRule) (cap : ℕ) (peaks : Peaks)
+      (count : ℕ) → AreBoundsUpTo B mode rules cap peaks count
+      → AreBoundsAboveUpTo S p mode rules cap peaks count
+  bounds_there_up_to mode rules cap peaks count bounds = record {
     figures = λ arrivals n g f few keep are tells is below.
         value_within S mode arrivals n g f (told peaks (figure_in_part S p f)) are tells
         (has_figure S p f is)
@@ -184,16 +185,16 @@ module _ (S B : System) (p : ℕ) (numbers : AreNumbered S B p) (shown : TicksSh
     ticks = tick;
   }
     where
-      tick : (arrivals : List Arrival) (n : ℕ) → n < count → KeepDistances S distances arrivals
+      tick : (arrivals : List Arrival) (n : ℕ) → n < count → KeepRules S rules arrivals
           → (run S mode arrivals n).state.over ≡ false
           → IsTickWithinAbove S p mode cap peaks arrivals n
       tick arrivals n early keep going =
           within_above mode arrivals n going cap peaks
           (bounds.ticks arrivals n early
-          (distances_there S B distances arrivals numbers.routines keep)
+          (rules_there S B rules arrivals numbers.routines keep)
           (sym (over mode arrivals n) ∙ going))
 
-  pub bounds_there : (mode : ℕ) (distances : List ℕ) (cap : ℕ) (peaks : Peaks)
-      → AreBounds B mode distances cap peaks → AreBoundsAbove S p mode distances cap peaks
-  bounds_there mode distances cap peaks bounds count =
-      bounds_there_up_to mode distances cap peaks count (bounds count)
+  pub bounds_there : (mode : ℕ) (rules : List ArrivalRule) (cap : ℕ) (peaks : Peaks)
+      → AreBounds B mode rules cap peaks → AreBoundsAbove S p mode rules cap peaks
+  bounds_there mode rules cap peaks bounds count =
+      bounds_there_up_to mode rules cap peaks count (bounds count)

@@ -8,6 +8,7 @@ use Rattle.osek_base.specs.Agree.{is_upper_declared, rank, upper_part}
 use Rattle.osek_base.specs.Proper.{IsProper}
 use Rattle.osek_base.specs.Separable.{Separable}
 use Rattle.osek_base.specs.Upper.{is_upper_alarm}
+use Rattle.arrival_rules.specs.declared.rule.ArrivalRule.{ArrivalRule}
 use Rattle.seen_ticks.specs.Observed.{failure_of, tick_at}
 use Rattle.view_figures.specs.FigureSums.{RunFigures}
 use Rattle.view_measures.specs.declared.figure.Figure.{Figure}
@@ -21,7 +22,7 @@ use Rattle.law_bounds.specs.Bounds.{AreBounds, AreBoundsUpTo}
 use Rattle.law_bounds.specs.Ending.{EndsWithin}
 use Rattle.law_bounds.specs.Releasing.{ReleasesWithin}
 use Rattle.law_bounds.specs.Showing.{AreTold, shown_at, value}
-use Rattle.law_bounds.specs.Distances.{KeepDistances}
+use Rattle.arrival_rules.specs.Rules.{KeepRules}
 use Rattle.law_upper.specs.Above.{AreOneAbove, IsUpperTask}
 use Rattle.law_upper.specs.ShownAbove.{if_upper}
 
@@ -76,55 +77,55 @@ pub record IsTickWithinAbove (S : System) (p mode cap : ℕ) (peaks : Peaks)
   pub failures : IfSome (if_upper S p (failure_of (tick_at S mode arrivals n).executed))
       (λ x. Contains peaks.failures x)
 
--- whatever arrives that keeps the distances, for so many ticks at most
-pub record AreBoundsAboveUpTo (S : System) (p mode : ℕ) (distances : List ℕ) (cap : ℕ)
+-- whatever arrives that keeps the rules, for so many ticks at most
+pub record AreBoundsAboveUpTo (S : System) (p mode : ℕ) (rules : List ArrivalRule) (cap : ℕ)
     (peaks : Peaks) (count : ℕ) : Type 0 where
   pub figures : (arrivals : List Arrival) (n : ℕ) (g : RunFigures) (f : Figure) → n ≤ count
-      → KeepDistances S distances arrivals → (are : AreRunFigures S mode arrivals n g)
+      → KeepRules S rules arrivals → (are : AreRunFigures S mode arrivals n g)
       → AreTold S mode arrivals are.seen f.measure → IsAbove S p f
       → IsTrue (is_below cap peaks (figure_in_part S p f))
       → value g are.seen (run S mode arrivals n).state.over f ≤ told peaks (figure_in_part S p f)
-  pub ticks : (arrivals : List Arrival) (n : ℕ) → n < count → KeepDistances S distances arrivals
+  pub ticks : (arrivals : List Arrival) (n : ℕ) → n < count → KeepRules S rules arrivals
       → (run S mode arrivals n).state.over ≡ false → IsTickWithinAbove S p mode cap peaks arrivals n
 
 -- and for however many ticks
-abbrev pub AreBoundsAbove : System → ℕ → ℕ → List ℕ → ℕ → Peaks → Type 0
-AreBoundsAbove S p mode distances cap peaks =
-    (count : ℕ) → AreBoundsAboveUpTo S p mode distances cap peaks count
+abbrev pub AreBoundsAbove : System → ℕ → ℕ → List ArrivalRule → ℕ → Peaks → Type 0
+AreBoundsAbove S p mode rules cap peaks =
+    (count : ℕ) → AreBoundsAboveUpTo S p mode rules cap peaks count
 
 -- so each job of an upper task whose greatest response is bounded below the cap ends or begins to
 -- wait within as many ticks of being ready
-abbrev pub UpperJobsEnd : System → ℕ → ℕ → List ℕ → ℕ → Peaks → Type 0
-UpperJobsEnd S p mode distances cap peaks =
+abbrev pub UpperJobsEnd : System → ℕ → ℕ → List ArrivalRule → ℕ → Peaks → Type 0
+UpperJobsEnd S p mode rules cap peaks =
     (t : ℕ) → IsUpperTask S p t → told peaks (figure Measure.Response t) < cap
-    → EndsWithin S mode distances (told peaks (figure Measure.Response t)) t
+    → EndsWithin S mode rules (told peaks (figure Measure.Response t)) t
 
 abbrev pub BoundedUpperJobsEnd : Type 0
 BoundedUpperJobsEnd =
-    (S : System) (p mode : ℕ) (distances : List ℕ) (cap : ℕ) (peaks : Peaks) → IsProper S
-    → AreBoundsAbove S p mode distances cap peaks → UpperJobsEnd S p mode distances cap peaks
+    (S : System) (p mode : ℕ) (rules : List ArrivalRule) (cap : ℕ) (peaks : Peaks) → IsProper S
+    → AreBoundsAbove S p mode rules cap peaks → UpperJobsEnd S p mode rules cap peaks
 
 -- and each job that holds an upper resource, or RES_SCHEDULER, whose longest hold is bounded below
 -- the cap releases it within as many ticks
-abbrev pub UpperHoldsEnd : System → ℕ → ℕ → List ℕ → ℕ → Peaks → Type 0
-UpperHoldsEnd S p mode distances cap peaks =
+abbrev pub UpperHoldsEnd : System → ℕ → ℕ → List ArrivalRule → ℕ → Peaks → Type 0
+UpperHoldsEnd S p mode rules cap peaks =
     (r : ℕ) → IsHeldAbove S p r
     → told peaks (figure Measure.Hold (resource_in_part S p r)) < cap
-    → ReleasesWithin S mode distances (told peaks (figure Measure.Hold (resource_in_part S p r))) r
+    → ReleasesWithin S mode rules (told peaks (figure Measure.Hold (resource_in_part S p r))) r
 
 abbrev pub BoundedUpperHoldsEnd : Type 0
 BoundedUpperHoldsEnd =
-    (S : System) (p mode : ℕ) (distances : List ℕ) (cap : ℕ) (peaks : Peaks) → IsProper S
-    → AreBoundsAbove S p mode distances cap peaks → UpperHoldsEnd S p mode distances cap peaks
+    (S : System) (p mode : ℕ) (rules : List ArrivalRule) (cap : ℕ) (peaks : Peaks) → IsProper S
+    → AreBoundsAbove S p mode rules cap peaks → UpperHoldsEnd S p mode rules cap peaks
 
 -- bounds of the upper part of a system by itself hold in another one, for as many ticks
 pub record BoundsHoldIn (S B : System) (p : ℕ) : Type 0 where
-  pub ever : (mode : ℕ) (distances : List ℕ) (cap : ℕ) (peaks : Peaks)
-      → AreBounds (upper_part S p) mode distances cap peaks
-      → AreBoundsAbove B p mode distances cap peaks
-  pub up_to : (mode : ℕ) (distances : List ℕ) (cap : ℕ) (peaks : Peaks) (count : ℕ)
-      → AreBoundsUpTo (upper_part S p) mode distances cap peaks count
-      → AreBoundsAboveUpTo B p mode distances cap peaks count
+  pub ever : (mode : ℕ) (rules : List ArrivalRule) (cap : ℕ) (peaks : Peaks)
+      → AreBounds (upper_part S p) mode rules cap peaks
+      → AreBoundsAbove B p mode rules cap peaks
+  pub up_to : (mode : ℕ) (rules : List ArrivalRule) (cap : ℕ) (peaks : Peaks) (count : ℕ)
+      → AreBoundsUpTo (upper_part S p) mode rules cap peaks count
+      → AreBoundsAboveUpTo B p mode rules cap peaks count
 
 -- in the whole system, and in each that agrees with it from p upward, whatever stands below
 pub record BoundsOfThePartHold : Type 0 where

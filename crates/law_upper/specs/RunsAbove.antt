@@ -8,6 +8,7 @@ use Rattle.osek_base.specs.Agree.{is_upper_declared, upper_part}
 use Rattle.osek_base.specs.Proper.{IsProper}
 use Rattle.osek_base.specs.Separable.{Separable}
 use Rattle.osek_base.specs.Upper.{is_upper_alarm}
+use Rattle.arrival_rules.specs.declared.rule.ArrivalRule.{ArrivalRule}
 use Rattle.seen_ticks.specs.declared.observation.Observation.{Observation}
 use Rattle.seen_ticks.specs.Observed.{failure_of, task_seen, tick_at}
 use Rattle.view_figures.specs.AlarmSums.{alarm_figures}
@@ -15,7 +16,7 @@ use Rattle.view_figures.specs.FigureSums.{RunFigures, task_figures}
 use Rattle.view_figures.specs.ResourceSums.{resource_figures}
 use Rattle.view_figures.specs.RoutineSums.{routine_figures}
 use Rattle.law_figures.specs.RunFigures.{AreRunFigures}
-use Rattle.law_bounds.specs.Distances.{KeepDistances}
+use Rattle.arrival_rules.specs.Rules.{KeepRules}
 use Rattle.law_figures.specs.Telling.{TellBlockers}
 use Rattle.law_bounds.specs.RunTicks.{blocked_at}
 use Rattle.law_bounds.specs.Unending.{NeedNotEnd, StandsBetween}
@@ -81,8 +82,8 @@ pub record TickShowsThatOfThePart (P S : System) (p mode : ℕ) (arrivals : List
 
 -- a system shows what its upper part by itself shows, in each mode and under the same arrivals
 pub record ShowsWhatThePartShows (P S : System) (p : ℕ) : Type 0 where
-  pub keep : (distances : List ℕ) (arrivals : List Arrival)
-      → KeepDistances P distances arrivals → KeepDistances S distances arrivals
+  pub keep : (rules : List ArrivalRule) (arrivals : List Arrival)
+      → KeepRules P rules arrivals → KeepRules S rules arrivals
   pub over : (mode : ℕ) (arrivals : List Arrival) (n : ℕ)
       → (run P mode arrivals n).state.over ≡ (run S mode arrivals n).state.over
   pub figures : (mode : ℕ) (arrivals : List Arrival) (n : ℕ) (f : RunFigures)
@@ -94,8 +95,8 @@ pub record ShowsWhatThePartShows (P S : System) (p : ℕ) : Type 0 where
   pub stands : (mode : ℕ) (arrivals : List Arrival) (from until t : ℕ) → IsUpperTask S p t
       → StandsBetween P mode arrivals from until t → StandsBetween S mode arrivals from until t
   -- so a task that can be kept from ending in the part can be kept from it in the system
-  pub unending : (mode : ℕ) (distances : List ℕ) (t : ℕ) → IsUpperTask S p t
-      → NeedNotEnd P mode distances t → NeedNotEnd S mode distances t
+  pub unending : (mode : ℕ) (rules : List ArrivalRule) (t : ℕ) → IsUpperTask S p t
+      → NeedNotEnd P mode rules t → NeedNotEnd S mode rules t
 
 -- the whole system does, and each that agrees with it from p upward, whatever stands below
 pub record RunsShowWhatThePartShows : Type 0 where

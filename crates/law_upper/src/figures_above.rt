@@ -16,15 +16,16 @@ pub fn upper_parts_show_the_same()
 {}
 
 /// Peaks that bound the figures of every run of the upper part by itself whose interrupts keep
-/// their distances bound the same figures in every such run of the whole system, and of each that
+/// their rules bound the same figures in every such run of the whole system, and of each that
 /// agrees with it from that priority upward: numbers of blockers where observations tell them.
 /// Those of runs of so many ticks bound those of as many.
 pub fn bounds_of_the_part_hold()
     ensures { BoundsOfThePartHold }
 {}
 
-/// Where the greatest response of an upper task is bounded by so many ticks below the cap, no job of
-/// it that is ready since a tick is READY or RUNNING as many ticks later, unless the run has ended.
+/// Where the greatest response of an upper task is bounded by so many ticks below the cap, no job
+/// of it that is ready since a tick is READY or RUNNING as many ticks later, unless the run has
+/// ended.
 pub fn bounded_upper_jobs_end()
     ensures { BoundedUpperJobsEnd }
 {}
@@ -36,9 +37,9 @@ pub fn bounded_upper_holds_end()
     ensures { BoundedUpperHoldsEnd }
 {}
 
-/// Where the greatest latency of a routine is bounded by so many ticks below the cap, each interrupt
-/// of it that isn't lost has the routine started within as many ticks, unless the run is over by
-/// then.
+/// Where the greatest latency of a routine is bounded by so many ticks below the cap, each
+/// interrupt of it that isn't lost has the routine started within as many ticks, unless the run is
+/// over by then.
 pub fn bounded_interrupts_start_above()
     ensures { BoundedInterruptsStartAbove }
 {}

@@ -20,8 +20,8 @@
 //! (`bounded_interrupts_start_above`), and jobs release upper resources whose holds are bounded
 //! (`bounded_upper_holds_end`). And the other way round, what a run of the upper part by itself
 //! shows, theirs show under the same arrivals (`runs_show_what_the_part_shows`): figures and
-//! blockers, how long tasks are blocked, a service that fails, that the run is over, and that a task
-//! need not end.
+//! blockers, how long tasks are blocked, a service that fails, that the run is over, and that a
+//! task need not end.
 #![tactic(auto)]
 
 mod figures_above;

@@ -1,4 +1,4 @@
--- An alarm expires no more often than its gap allows; so costs, distances and gaps are enough.
+-- An alarm expires no more often than its gap allows; so costs, rules and gaps are enough.
 use Rattle.std.proofs.Common.{ℕ, zero, suc, ◌≡◌, ◌<◌, ◌≤◌, ◌+◌, ◌*◌, inl, inr, Bool, true, false, cond, List, length, refl, sym, ap, subst, arith}
 use Rattle.std.specs.Prelude.{Option, Some, None, ◌==◌}
 use Rattle.std.proofs.Math.Nat.{mul-pos}
@@ -97,8 +97,8 @@ expiries_are_few S mode arrivals costs least count proper sooner a from inside d
     (is_never_set S a) refl
 
 pub gaps_bound_responses : GapsBoundResponses
-gaps_bound_responses S mode distances p costs least most proper enough counted =
-    analysis_bounds_responses S mode distances p costs (most_expiries S mode least most) most enough
+gaps_bound_responses S mode rules p costs least most proper enough counted =
+    analysis_bounds_responses S mode rules p costs (most_expiries S mode least most) most enough
     (λ arrivals keep. record {
       left = (counted arrivals keep).left;
       potential = (counted arrivals keep).potential;

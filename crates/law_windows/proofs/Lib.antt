@@ -7,6 +7,7 @@ pub mod Phases
 pub mod Sums
 pub mod Responses
 pub mod Losses
+pub mod Arrivals
 pub mod Analysis
 pub mod Expiring
 pub mod Routines

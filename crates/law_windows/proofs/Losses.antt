@@ -1,6 +1,7 @@
 -- Where a routine starts before its next interrupt may come, none is lost.
-use Rattle.std.proofs.Common.{ℕ, zero, suc, ◌≡◌, ◌<◌, ◌≤◌, ◌+◌, ◌⊎◌, inl, inr, Bool, true, false, cond, ◌||◌, List, [], ◌∷◌, set, replicate, length, refl, sym, ◌∙◌, ap, subst, arith}
+use Rattle.std.proofs.Common.{ℕ, zero, suc, ◌≡◌, ◌<◌, ◌≤◌, ◌+◌, ◌-◌, ◌⊎◌, inl, inr, Bool, true, false, cond, ◌||◌, List, [], ◌∷◌, set, replicate, length, refl, sym, ◌∙◌, ap, subst, arith}
 use Rattle.std.specs.Prelude.{Option, Some, None, ◌==◌, slice_index_or}
+use Rattle.std.proofs.Math.Nat.{mul-le-mul_right}
 use Rattle.std.proofs.lemmas.Bool.{cases_eq, cases_lt, eq-eqb}
 use Rattle.std.proofs.lemmas.List.{get_or-set_other}
 use Rattle.osek_base.specs.declared.arrivals.Arrival.{Arrival}
@@ -11,13 +12,14 @@ use Rattle.osek_base.specs.State.{State, may_dispatch, still}
 use Rattle.osek_base.specs.System.{System}
 use Rattle.osek_base.specs.Tick.{alarm_phase, arrival_phase, flagged, is_pending, routine_choice, routine_started, start_phase, tick}
 use Rattle.osek_base.specs.Trace.{all_activated, arriving, boot, run, starting_alarms, starting_tasks}
+use Rattle.arrival_rules.specs.declared.rule.ArrivalRule.{ArrivalRule}
+use Rattle.arrival_rules.specs.Rules.{KeepRules, KeepsRule, comes, rule_at}
 use Rattle.law_runs.proofs.Lists.{clash}
 use Rattle.law_runs.proofs.RunSteps.{going_before, run_tick}
 use Rattle.law_future.specs.Shown.{arrives}
-use Rattle.search_labels.specs.Labels.{distance_of}
-use Rattle.law_bounds.specs.Distances.{KeepDistances}
+use Rattle.law_bounds.proofs.Comings.{first_counts}
 use Rattle.law_windows.specs.Responses.{RespondWithin}
-use Rattle.law_windows.specs.Losses.{NoneIsLost, SoonStartedAreNotLost}
+use Rattle.law_windows.specs.Losses.{KeepsApart, NoneIsLost, SoonStartedAreNotLost}
 use Rattle.law_windows.proofs.Before.{or_true, pending_alarms, pending_reschedule}
 use Rattle.law_windows.proofs.Responses.{same_flags}
 
@@ -26,7 +28,8 @@ use Rattle.law_windows.proofs.Responses.{same_flags}
 abbrev pub flag : List Bool → ℕ → Bool
 flag flags i = slice_index_or flags i false
 
-pub not_taken : (flags : List Bool) (r i : ℕ) → flag (set flags r false) i ≡ true → flag flags i ≡ true
+pub not_taken : (flags : List Bool) (r i : ℕ) → flag (set flags r false) i ≡ true
+    → flag flags i ≡ true
 not_taken [] r i on = on
 not_taken (b ∷ flags) zero zero on = clash (sym on)
 not_taken (b ∷ flags) zero (suc i) on = on
@@ -156,9 +159,24 @@ module _ (S : System) (mode : ℕ) (arrivals : List Arrival) (i : ℕ) where
             ];
           }
 
-module _ (S : System) (mode : ℕ) (distances : List ℕ) (arrivals : List Arrival) (p most i : ℕ)
-    (keep : KeepDistances S distances arrivals) (within : RespondWithin S mode arrivals p most)
-    (known : i < length S.routines) (short : most ≤ distance_of distances i) where
+-- by a rule two interrupts, of which the later comes so many ticks behind, are apart by the period
+-- but for the slack
+period_apart : (rule : ArrivalRule) (arrivals : List Arrival) (t apart : ℕ)
+    → KeepsRule arrivals rule → comes arrivals rule.routine t ≡ true
+    → comes arrivals rule.routine (t + suc apart) ≡ true → rule.period ≤ apart + rule.slack
+period_apart rule arrivals t apart keeps one other =
+    let far = keeps t (suc apart) one other in
+    let some = first_counts arrivals rule.routine t one apart in
+    let more = mul-le-mul_right rule.period some in
+    omega (arith, far, more)
+
+module _ (S : System) (mode : ℕ) (rules : List ArrivalRule) (arrivals : List Arrival)
+    (p most r : ℕ) (keep : KeepRules S rules arrivals)
+    (within : RespondWithin S mode arrivals p most)
+    (short : KeepsApart (rule_at rules r) most) where
+  abbrev i : ℕ
+  i = (rule_at rules r).routine
+
   no_room : (n : ℕ) → (run S mode arrivals n).state.over ≡ false → arrives arrivals n i ≡ true
       → IsPendingSince S mode arrivals i n → ⊥
   no_room zero going now found = let early = found.early in absurd (omega (arith, early))
@@ -168,8 +186,12 @@ module _ (S : System) (mode : ℕ) (distances : List ℕ) (arrivals : List Arriv
       let soon : suc n < found.since + most =
       within.routines n found.since i going order
       (λ t low high. found.pends t low (omega (arith, high))) in
-      let apart = keep.spaced i found.since (suc n) known early found.arrived now in
-      absurd (omega (arith, soon, apart, short))
+      let apart : ℕ = n - found.since in
+      let is : suc n ≡ found.since + suc apart = omega (arith, order) in
+      let far =
+      period_apart (rule_at rules r) arrivals found.since apart (keep.each r) found.arrived
+      (subst (λ t. comes arrivals i t ≡ true) is now) in
+      absurd (omega (arith, soon, is, far, short))
 
   none_lost : NoneIsLost S mode arrivals i
   none_lost n going now = go (is_pending (run S mode arrivals n).state i) refl
@@ -179,5 +201,5 @@ module _ (S : System) (mode : ℕ) (distances : List ℕ) (arrivals : List Arriv
       go true is = absurd (no_room n going now (since_when S mode arrivals i n going is))
 
 pub soon_started_are_not_lost : SoonStartedAreNotLost
-soon_started_are_not_lost S mode distances arrivals p most i keep within known short =
-    none_lost S mode distances arrivals p most i keep within known short
+soon_started_are_not_lost S mode rules arrivals p most n keep within known short =
+    none_lost S mode rules arrivals p most n keep within short

@@ -4,7 +4,8 @@ use Rattle.std.specs.Prelude.{ℕ, ◌*◌, ◌≡◌, ◌<◌, ◌≤◌, false
 use Rattle.osek_base.specs.declared.arrivals.Arrival.{Arrival}
 use Rattle.osek_base.specs.Proper.{IsProper}
 use Rattle.osek_base.specs.System.{System, alarm_start_in}
-use Rattle.law_bounds.specs.Distances.{KeepDistances}
+use Rattle.arrival_rules.specs.declared.rule.ArrivalRule.{ArrivalRule}
+use Rattle.arrival_rules.specs.Rules.{KeepRules}
 use Rattle.law_alarms.specs.Expiries.{base_of}
 use Rattle.law_alarms.specs.Setting.{AreNoSooner, is_never_set}
 use Rattle.law_alarms.specs.Spaced.{most_in}
@@ -55,13 +56,13 @@ pub record IsCountedButForAlarms (S : System) (mode : ℕ) (arrivals : List Arri
   pub potential : IsPotential S mode arrivals p costs left
   pub sooner : AreSetNoSooner S mode arrivals costs least
 
--- the law: costs, distances of interrupts and gaps between expiries are all that ticks are enough
+-- the law: costs, rules of interrupts and gaps between expiries are all that ticks are enough
 -- for
 abbrev pub GapsBoundResponses : Type 0
 GapsBoundResponses =
-    (S : System) (mode : ℕ) (distances : List ℕ) (p : ℕ) (costs : Costs) (least : ℕ → ℕ)
+    (S : System) (mode : ℕ) (rules : List ArrivalRule) (p : ℕ) (costs : Costs) (least : ℕ → ℕ)
     (most : ℕ) → IsProper S
-    → AreAlwaysEnough S distances costs (most_expiries S mode least most) most
-    → ((arrivals : List Arrival) → KeepDistances S distances arrivals
+    → AreAlwaysEnough S rules costs (most_expiries S mode least most) most
+    → ((arrivals : List Arrival) → KeepRules S rules arrivals
     → IsCountedButForAlarms S mode arrivals p costs least)
-    → IsBoundOf S mode distances p most
+    → IsBoundOf S mode rules p most

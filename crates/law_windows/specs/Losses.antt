@@ -1,12 +1,12 @@
 -- OSEK/VDX OS: interrupt processing, category 2. Interrupts that aren't lost.
-use Rattle.std.specs.Prelude.{ℕ, ◌≡◌, ◌<◌, ◌≤◌, true, false, List, length}
+use Rattle.std.specs.Prelude.{ℕ, ◌+◌, ◌≡◌, ◌<◌, ◌≤◌, true, false, List, length}
 use Rattle.osek_base.specs.declared.arrivals.Arrival.{Arrival}
 use Rattle.osek_base.specs.System.{System}
 use Rattle.osek_base.specs.Tick.{is_pending}
 use Rattle.osek_base.specs.Trace.{run}
+use Rattle.arrival_rules.specs.declared.rule.ArrivalRule.{ArrivalRule}
 use Rattle.law_future.specs.Shown.{arrives}
-use Rattle.search_labels.specs.Labels.{distance_of}
-use Rattle.law_bounds.specs.Distances.{KeepDistances}
+use Rattle.arrival_rules.specs.Rules.{KeepRules, rule_at}
 use Rattle.law_windows.specs.Responses.{RespondWithin}
 
 -- no interrupt of a routine arrives while one is pending
@@ -17,10 +17,15 @@ NoneIsLost S mode arrivals i =
 
 -- ---- the law
 
--- where a routine starts before so many ticks have passed, and its interrupts are at least as many
--- apart
+-- by a rule two interrupts of its routine come so many ticks apart, or more
+abbrev pub KeepsApart : ArrivalRule → ℕ → Type 0
+KeepsApart rule ticks = ticks + rule.slack ≤ rule.period + 1
+
+-- where routines start before so many ticks have passed, and a rule keeps interrupts of its routine
+-- as many apart
 abbrev pub SoonStartedAreNotLost : Type 0
 SoonStartedAreNotLost =
-    (S : System) (mode : ℕ) (distances : List ℕ) (arrivals : List Arrival) (p most i : ℕ)
-    → KeepDistances S distances arrivals → RespondWithin S mode arrivals p most
-    → i < length S.routines → most ≤ distance_of distances i → NoneIsLost S mode arrivals i
+    (S : System) (mode : ℕ) (rules : List ArrivalRule) (arrivals : List Arrival) (p most n : ℕ)
+    → KeepRules S rules arrivals → RespondWithin S mode arrivals p most
+    → (rule_at rules n).routine < length S.routines → KeepsApart (rule_at rules n) most
+    → NoneIsLost S mode arrivals (rule_at rules n).routine

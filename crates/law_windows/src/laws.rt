@@ -31,8 +31,9 @@ pub fn phases_make_a_potential()
     ensures { PhasesMakeAPotential }
 {}
 
-/// Of a routine whose interrupts keep a distance, at most (count - 1) / distance + 1 arrive in so
-/// many ticks in a row.
+/// Of a routine whose interrupts keep a rule at most (count + slack - 2) / period + 1 arrive in so
+/// many ticks in a row, with its jitter and its bursts: none with a slack of 0, and no more than
+/// one a tick.
 pub fn arrivals_are_few()
     ensures { ArrivalsAreFew }
 {}
@@ -49,13 +50,13 @@ pub fn responses_lie_in_windows()
     ensures { ResponsesLieInWindows }
 {}
 
-/// Where a routine starts before as many ticks have passed as its interrupts are apart, none of
-/// them is lost.
+/// Where a routine starts before as many ticks have passed as a rule keeps its interrupts apart,
+/// period + 1 - slack, none of them is lost.
 pub fn soon_started_are_not_lost()
     ensures { SoonStartedAreNotLost }
 {}
 
-/// Where all runs whose interrupts keep their distances have potentials of the same costs, as many
+/// Where all runs whose interrupts keep their rules have potentials of the same costs, as many
 /// ticks as are enough for all that can come bound each window, and what lies in it.
 pub fn analysis_bounds_responses()
     ensures { AnalysisBoundsResponses }
@@ -68,7 +69,7 @@ pub fn expiries_are_few()
     ensures { ExpiriesAreFew }
 {}
 
-/// So costs, distances of interrupts and gaps between expiries bound each window, where all such
+/// So costs, rules of interrupts and gaps between expiries bound each window, where all such
 /// runs have potentials of these costs.
 pub fn gaps_bound_responses()
     ensures { GapsBoundResponses }

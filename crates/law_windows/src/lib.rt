@@ -1,5 +1,5 @@
 //! No code: the frame of a response-time analysis. One inequality bounds every response of a
-//! level, whatever interrupts come that keep their distances, where the work of the level can be
+//! level, whatever interrupts come that keep their rules, where the work of the level can be
 //! counted.
 //!
 //! A *level* is a static priority: its *work* is of all routines and of the tasks of that priority
@@ -9,17 +9,17 @@
 //!
 //! - A tick before which work stands is busy (`work_stays`). A response lies in one window
 //!   (`busy_ticks_lie_in_windows`, `responses_lie_in_windows`), and so does the time for which an
-//!   interrupt is pending. So none is lost where windows are shorter than its distance
-//!   (`soon_started_are_not_lost`).
+//!   interrupt is pending. So none is lost where windows are shorter than a rule keeps its
+//!   interrupts apart (`soon_started_are_not_lost`).
 //! - A *potential* of a run is a number between two ticks, at least 1 where work stands, that
 //!   falls in each busy tick but for what comes in it: costs of interrupts and of expiries of
 //!   alarms. A window that begins with so much and in which so much comes has no more ticks than
 //!   that (`windows_are_short`). It is enough to know it phase by phase
 //!   (`phases_make_a_potential`).
-//! - How often interrupts come in a row of ticks is bounded by their distances
-//!   (`arrivals_are_few`, `little_comes`), and how often alarms expire by their cycles
-//!   (`expiries_are_few`): of one that programs set by the least increment or cycle to which they
-//!   set it, a count where nothing else is known.
+//! - How often interrupts come in a row of ticks is bounded by the periods and slacks of their
+//!   rules, so with jitter and bursts (`arrivals_are_few`, `little_comes`), and how often alarms
+//!   expire by their cycles (`expiries_are_few`): of one that programs set by the least increment
+//!   or cycle to which they set it, a count where nothing else is known.
 //! - So a number of ticks that is no less than what may be left where a window begins and all that
 //!   can come in as many ticks bounds each window, and each response
 //!   (`analysis_bounds_responses`, `gaps_bound_responses`).

@@ -86,14 +86,22 @@ pub enum Arriving {
 }
 
 impl Arriving {
-    /// The greatest distance in ticks that all such arrivals keep, where one is said. Listed ticks
-    /// alone are those of one run, and say none.
+    /// The greatest distance in ticks that all such arrivals keep, but for jitter, where one is said.
+    /// Listed ticks alone are those of one run, and say none.
     pub fn distance(self) -> Option<u32> {
         match self {
-            Arriving::Periodic { period, jitter, .. } => Some(period.saturating_sub(jitter)),
+            Arriving::Periodic { period, .. } => Some(period),
             Arriving::Random { least, .. } => Some(least),
             Arriving::Listed { least, .. } => least,
             Arriving::Never => None,
+        }
+    }
+
+    /// By how many ticks one may come later than its period says, where it may.
+    pub fn jitter(self) -> Option<u32> {
+        match self {
+            Arriving::Periodic { jitter, .. } if jitter > 0 => Some(jitter),
+            _ => None,
         }
     }
 }

@@ -24,10 +24,7 @@ const NONE: Rate = Rate {
 impl Rate {
     /// How often an interrupt arrives. A jitter moves arrivals, and makes none.
     pub fn of_arrivals(arriving: Arriving) -> Rate {
-        match arriving {
-            Arriving::Periodic { period, .. } => Rate::once_in(Some(period)),
-            _ => Rate::once_in(arriving.distance()),
-        }
+        Rate::once_in(arriving.distance())
     }
 
     /// Once in so many ticks; less than all, where no distance is told.

@@ -1,5 +1,4 @@
-//! The rules of a description, for all runs: how far apart interrupts come, and what may take how
-//! long.
+//! The rules of a description, for all runs: how interrupts come, and what may take how long.
 
 use make_descriptions::description::{Arriving, Described};
 use make_descriptions::routines::{Routine, routines};
@@ -29,13 +28,17 @@ fn write_source<W: Write>(arriving: Arriving, out: &mut W) -> io::Result<()> {
     }
 }
 
-/// Writes how far apart the interrupts of a routine come, where that is said.
-fn write_distance<W: Write>(routine: Routine<'_>, out: &mut W) -> io::Result<()> {
+/// Writes how the interrupts of a routine come, where that is said.
+fn write_arriving<W: Write>(routine: Routine<'_>, out: &mut W) -> io::Result<()> {
     write!(out, "# {}{}: ", routine.front, routine.name)?;
     write_source(routine.arriving, out)?;
     match routine.arriving.distance() {
-        Some(distance) => writeln!(out, "\napart {}{} {distance}", routine.front, routine.name),
-        None => out.write_all(b": it may come in every tick\n"),
+        Some(distance) => writeln!(out, "\napart {}{} {distance}", routine.front, routine.name)?,
+        None => out.write_all(b": it may come in every tick\n")?,
+    }
+    match routine.arriving.jitter() {
+        Some(jitter) => writeln!(out, "jitter {}{} {jitter}", routine.front, routine.name),
+        None => Ok(()),
     }
 }
 
@@ -55,8 +58,8 @@ fn write_limit<W: Write>(
     }
 }
 
-/// Writes the rules: a line `apart` for each routine of which a distance is said, then a line
-/// `limit` for each deadline, each below a comment that says whence it comes. An error is a failed
+/// Writes the rules: a line `apart` for each routine of which a distance is said, with a line
+/// `jitter` where it has one, then a line `limit` for each deadline, each below a comment that says whence it comes. An error is a failed
 /// write or want of memory.
 pub fn write_rules<W: Write>(
     alloc: Global,
@@ -69,7 +72,7 @@ pub fn write_rules<W: Write>(
         described.name
     )?;
     for routine in routines(alloc, described)? {
-        write_distance(routine, out)?;
+        write_arriving(routine, out)?;
     }
     for interrupt in &described.interrupts {
         write_limit(interrupt.name, "latency", interrupt.deadline, out)?;

@@ -49,9 +49,11 @@ impl<'a> Counters<'a> {
         let mut list = Vec::new(alloc);
         let own = depth.saturating_add(1);
         for (at, item) in items.iter().enumerate() {
-            if let ("COUNTER", Written::Name(name), true) =
-                (item.word, item.written, item.depth == depth)
-            {
+            if let ("COUNTER", Written::Name(name), true) = (
+                item.word,
+                item.written,
+                item.depth == depth,
+            ) {
                 let attributes = inside(items, at, depth);
                 let most = number_of(AttributeName::MaxAllowedValue, attributes, own, defaults);
                 let least = number_of(AttributeName::MinCycle, attributes, own, defaults);

@@ -153,7 +153,11 @@ impl<'a> DeclaredObjects<'a> {
 
     /// How many objects of a kind there are.
     pub(crate) fn count(&self, kind: Kind) -> usize {
-        let mut count: usize = if kind == Kind::Alarm { self.made.len() } else { 0 };
+        let mut count: usize = if kind == Kind::Alarm {
+            self.made.len()
+        } else {
+            0
+        };
         for object in &self.list {
             if object.kind == kind {
                 count = count.saturating_add(1);

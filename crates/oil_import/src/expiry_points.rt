@@ -255,7 +255,11 @@ impl<'a> Importer<'a> {
         self.draft.open_setting("AUTOSTART", "TRUE")?;
         self.draft.open_block()?;
         self.draft.number("ALARMTIME", time.first)?;
-        let cycle = if table.is_repeating { table.duration } else { 0 };
+        let cycle = if table.is_repeating {
+            table.duration
+        } else {
+            0
+        };
         self.draft.number("CYCLETIME", cycle)?;
         for mode in &start.modes {
             self.draft.setting("APPMODE", mode)?;

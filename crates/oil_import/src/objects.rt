@@ -210,7 +210,9 @@ impl<'a> Importer<'a> {
         }
         if is_software_counter(kind, item) {
             let (subject, reason) = (subject_of(item), reasons::COUNTS_TICKS);
-            return self.messages.tell(item.place, Verdict::Kept, subject, reason);
+            return self
+                .messages
+                .tell(item.place, Verdict::Kept, subject, reason);
         }
         self.leave_out(item, reason_for(kind, item.word))
     }

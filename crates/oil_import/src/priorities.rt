@@ -117,7 +117,10 @@ impl Priorities {
         is_bending: bool,
     ) -> Result<Self, AllocError> {
         let usual = default_number(defaults, AttributeName::TaskPriority);
-        let of_tasks = Unsaid { usual, of_bent: usual };
+        let of_tasks = Unsaid {
+            usual,
+            of_bent: usual,
+        };
         let usual = default_number(defaults, AttributeName::IsrPriority);
         let is_unsaid = defaults.of(AttributeName::IsrPriority).is_none();
         let of_bent = if is_bending && is_unsaid {

@@ -182,8 +182,7 @@ pub(crate) const SYNCHRONIZED: &str =
 pub(crate) const BENT_SYNCHRONIZED: &str =
     "never adjusted here: the distances of its points are always those that it says";
 
-pub(crate) const LOAD: &str =
-    "it may be load, and isn't known here: give an ACTION that does it";
+pub(crate) const LOAD: &str = "it may be load, and isn't known here: give an ACTION that does it";
 
 pub(crate) const ACTIONS: &str =
     "an alarm activates a task or sets an event; callbacks can't be expressed";

@@ -106,9 +106,8 @@ impl<'a> Importer<'a> {
             let subject = Subject::Word(item.word);
             return self.messages.refuse(item.place, subject, reasons::NO_NAME);
         };
-        let is_idle = attributes
-            .iter()
-            .all(|attribute| attribute.word != "ACTION" && !self.is_load(attribute));
+        let is_idle = attributes.iter().all(|attribute| attribute.word != "ACTION"
+            && !self.is_load(attribute));
         if is_idle {
             return self.leave_out(item, reasons::NO_EXPIRIES);
         }

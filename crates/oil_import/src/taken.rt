@@ -147,13 +147,8 @@ pub(crate) fn cut<'a>(item: &Item<'a>, value: &'a str) -> Taken<'a> {
 pub(crate) fn out_of_counts(attribute: AttributeName, value: &str) -> Option<&'static str> {
     let count = number(value)?;
     match attribute {
-        AttributeName::MaxAllowedValue
-        | AttributeName::TicksPerBase
-        | AttributeName::MinCycle
-            if count == 0 =>
-        {
-            Some(reasons::NOT_ZERO)
-        }
+        AttributeName::MaxAllowedValue | AttributeName::TicksPerBase | AttributeName::MinCycle
+            if count == 0 => { Some(reasons::NOT_ZERO) }
         _ => None,
     }
 }

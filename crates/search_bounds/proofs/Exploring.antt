@@ -3,11 +3,13 @@ use Rattle.std.proofs.Common.{ℕ, ◌≡◌, ◌<◌, ◌≤◌, ◌^◌, arith
 use Rattle.std.specs.Prelude.{◌==◌, Option, Some, None, Result, Ok, Err, IfOk, IfSome, IfNone, OnOk, length}
 use Rattle.std.proofs.Math.Pow.{pow_mono}
 use Rattle.std.specs.Int.{bit_at}
-use Rattle.std.proofs.lemmas.Bool.{eq-eqb, ne_eqb, eqb-true, true≢false}
+use Rattle.std.proofs.lemmas.Bool.{eq-eqb, eqb-true}
 use Rattle.osek_base.specs.System.{System}
 use Rattle.law_kept.specs.Kept.{Kept}
 use Rattle.law_kept.specs.KeptTick.{boot_in, tick_in}
 use Rattle.osek_base.specs.declared.ids.Owner.{Owner}
+use Rattle.arrival_rules.specs.declared.rule.ArrivalRule.{ArrivalRule}
+use Rattle.arrival_rules.specs.Debts.{IsFree}
 use Rattle.seen_ticks.specs.declared.observation.Observation.{Observation}
 use Rattle.seen_ticks.specs.Seen.{Seen, seen_of}
 use Rattle.search_needs.specs.Table.{need_of}
@@ -16,11 +18,11 @@ use Rattle.law_future.specs.Alike.{kept_after}
 use Rattle.search_keys.specs.Key.{key}
 use Rattle.search.specs.Rules.{IsNextChoice, NoMoreMay, StaysNoted}
 use Rattle.search.specs.Subsets.{IsSubset, NoSubset}
-use Rattle.search_labels.specs.Labels.{IsAtLeast, Labels, arrives_in, first_labels, next_labels, wait_of}
+use Rattle.search_labels.specs.Labels.{IsAtLeast, Labels, arrives_in, first_labels, next_labels, debt_of}
 use Rattle.view_figures.specs.FigureSums.{held_count, levels_of, lower_executes}
 use Rattle.search_peaks.specs.Noting.{IsNoted, NotesStay, TickShown, shown_by}
 use Rattle.search_peaks.specs.Peaks.{AreAtLeast, Peaks}
-use Rattle.law_bounds.specs.Nodes.{AreNoted, Comes, IsFirst, IsNext, Node, Setting, StandsFor, labels_at_boot, lower_from, routines_of, rules_of, seen_from, tick_shown_from}
+use Rattle.law_bounds.specs.Nodes.{AreNoted, Comes, IsFirst, IsNext, Node, Setting, StandsFor, labels_at_boot, lower_from, routines_of, search_rules, seen_from, tick_shown_from}
 use Rattle.law_bounds.specs.Trying.{AreFree, MaySubsets, OneStateTells, SubsetsMay, TellsAll}
 use Rattle.law_bounds.proofs.Going.{boot_state}
 use Rattle.law_bounds.proofs.Trying.{labels_are_ordered}
@@ -68,7 +70,7 @@ module _ (s : Setting) (set : ℕ) (o : Kept) (n : Machine) (w : Observation)
 
   -- the node that is made of it
   pub is_behind : (l behind : Labels) → system_of n ≡ s.system
-      → behind ≡ next_labels (lower_executes (levels_of s.system) w.executor) s.cap s.distances set
+      → behind ≡ next_labels (lower_executes (levels_of s.system) w.executor) s.cap s.rules set
       (seen_of w) l
       → (y : Node) → y.key ≡ key (system_of n) s.need (picture n) → y.over ≡ (picture n).over
       → y.labels ≡ behind → IsBehind s set o l y
@@ -77,7 +79,7 @@ module _ (s : Setting) (set : ℕ) (o : Kept) (n : Machine) (w : Observation)
     over = over ∙ ap (λ (k : Kept). k.over) ticked.after;
     labels = labels ∙ next
         ∙ ap₂ (λ (e : Option Owner) (t : Seen).
-        next_labels (lower_executes (levels_of s.system) e) s.cap s.distances set t l)
+        next_labels (lower_executes (levels_of s.system) e) s.cap s.rules set t l)
         ticked.executor ticked.seen;
   }
 
@@ -100,9 +102,9 @@ is_next e x y set m l all same made =
       key = sym made.key;
       over = sym made.over;
       labels = subst (λ (k : Labels). IsAtLeast k
-          (next_labels (lower_from s set o) s.cap s.distances set (seen_from s set o) x.labels))
+          (next_labels (lower_from s set o) s.cap s.rules set (seen_from s set o) x.labels))
           (sym (made.labels ∙ ap (λ (k : Labels).
-          next_labels (lower_from s set o) s.cap s.distances set (seen_from s set o) k) same))
+          next_labels (lower_from s set o) s.cap s.rules set (seen_from s set o) k) same))
           (labels_are_ordered.itself _);
     })
 
@@ -117,25 +119,26 @@ are_noted e x set m peaks t l all shown same noted =
     (subst (λ (s : TickShown). IsNoted (levels_of e.ground.system) e.cap peaks s l) shown noted))
 
 -- the labels after boot
-pub first_is : (S : System) (tasks routines held : ℕ) → tasks ≡ length S.tasks
-    → routines ≡ length S.routines → held ≡ held_count S
-    → first_labels tasks routines held ≡ labels_at_boot S
-first_is S tasks routines held one two three =
-    ap (λ n. first_labels n routines held) one ∙ ap (λ n. first_labels (length S.tasks) n held) two
-    ∙ ap (first_labels (length S.tasks) (length S.routines)) three
+pub first_is : (s : Setting) (tasks routines held : ℕ) → tasks ≡ length s.system.tasks
+    → routines ≡ length s.system.routines → held ≡ held_count s.system
+    → first_labels (length s.rules) tasks routines held ≡ labels_at_boot s
+first_is s tasks routines held one two three =
+    ap (λ n. first_labels (length s.rules) n routines held) one
+    ∙ ap (λ n. first_labels (length s.rules) (length s.system.tasks) n held) two
+    ∙ ap (first_labels (length s.rules) (length s.system.tasks) (length s.system.routines)) three
 
 -- the node after boot
 pub is_first : (e : Explorer) (y : Node) (m : Machine) → system_of m ≡ e.ground.system
     → picture m ≡ (boot_in e.ground.system e.mode).state
     → y.key ≡ key (system_of m) (need_of e.ground.needs) (picture m) → y.over ≡ (picture m).over
-    → y.labels ≡ labels_at_boot e.ground.system
+    → y.labels ≡ labels_at_boot (setting_of e)
     → IsFirst (setting_of e) y
 is_first e y m system state made over labels = record {
   key = sym (made ∙ ap (λ S. key S (need_of e.ground.needs) (picture m)) system
       ∙ ap (key e.ground.system (need_of e.ground.needs)) state);
   over = sym (over ∙ ap (λ (o : Kept). o.over) state);
-  labels = subst (λ (l : Labels). IsAtLeast l (labels_at_boot e.ground.system)) (sym labels)
-      (labels_are_ordered.itself (labels_at_boot e.ground.system));
+  labels = subst (λ (l : Labels). IsAtLeast l (labels_at_boot (setting_of e))) (sym labels)
+      (labels_are_ordered.itself (labels_at_boot (setting_of e)));
 }
 
 -- ---- notes
@@ -164,40 +167,34 @@ booted_state S mode m booted =
 
 -- ---- sets of routines that may arrive
 
-free_is : (whole i wait : ℕ) → (wait ≡ 0 → bit_at whole i ≡ 1) → (bit_at whole i ≡ 1 → wait ≡ 0)
-    → arrives_in whole i ≡ (wait == 0)
-free_is whole i wait has only = go (wait == 0) refl
-  where
-    go : (b : Bool) → (wait == 0) ≡ b → arrives_in whole i ≡ b
-    go true is = eq-eqb (bit_at whole i) 1 (has (eqb-true wait 0 is))
-    go false is =
-        ne_eqb (bit_at whole i) 1 (λ bit. true≢false (sym (eq-eqb wait 0 (only bit)) ∙ is))
-
-pub are_free : (count whole : ℕ) (l : Labels) → ((i : ℕ) → i < count → wait_of l i ≡ 0
-    → bit_at whole i ≡ 1)
-    → ((i : ℕ) → bit_at whole i ≡ 1 → wait_of l i ≡ 0) → whole < 2 ^ count → AreFree count l whole
-are_free count whole l has only low = record {
+pub are_free : (count whole : ℕ) (rules : List ArrivalRule) (l : Labels)
+    → ((i : ℕ) → bit_at whole i ≡ 1 → IsFree rules (debt_of l) i)
+    → ((i : ℕ) → i < count → IsFree rules (debt_of l) i → bit_at whole i ≡ 1) → whole < 2 ^ count
+    → AreFree count rules l whole
+are_free count whole rules l free others low = record {
   low = low;
-  has = λ i inside. free_is whole i (wait_of l i) (has i inside) (only i);
+  free = λ i here. free i (eqb-true (bit_at whole i) 1 here);
+  others = λ i inside may. eq-eqb (bit_at whole i) 1 (others i inside may);
 }
 
 pub free_choices : (e f : Explorer) (x : Node) (l : Labels) (count whole : ℕ) → SubsetsMay → f ≡ e
     → l ≡ x.labels → x.over ≡ false
-    → count ≡ length f.ground.system.routines → ((i : ℕ) → i < count → wait_of l i ≡ 0
-    → bit_at whole i ≡ 1)
-    → ((i : ℕ) → bit_at whole i ≡ 1 → wait_of l i ≡ 0) → whole < 2 ^ count
-    → MaySubsets (setting_of e) x whole
-free_choices e f x l count whole may same alike going many has only low =
-    let free = subst (λ n. AreFree n l whole) many (are_free count whole l has only low) in
+    → count ≡ length f.ground.system.routines
+    → ((i : ℕ) → bit_at whole i ≡ 1 → IsFree f.rules (debt_of l) i)
+    → ((i : ℕ) → i < count → IsFree f.rules (debt_of l) i → bit_at whole i ≡ 1)
+    → whole < 2 ^ count → MaySubsets (setting_of e) x whole
+free_choices e f x l count whole may same alike going many free others low =
+    let are = subst (λ n. AreFree n f.rules l whole) many
+    (are_free count whole f.rules l free others low) in
     subst (λ (g : Explorer). MaySubsets (setting_of g) x whole) same
     (may (setting_of f) x whole going
-    (subst (λ (m : Labels). AreFree (length f.ground.system.routines) m whole) alike free))
+    (subst (λ (m : Labels). AreFree (length f.ground.system.routines) f.rules m whole) alike are))
 
 pub next_choice : (s : Setting) (x : Node) (whole from count : ℕ) → MaySubsets s x whole
     → whole < 2 ^ count → count ≤ 16 → (o : Option ℕ)
     → IfSome o (λ set. from ≤ set) → IfSome o (λ set. IsSubset set whole)
     → IfSome o (λ set. set ≤ whole) → IfSome o (NoSubset whole from)
-    → IfSome o (IsNextChoice (rules_of s) x from)
+    → IfSome o (IsNextChoice (search_rules s) x from)
 next_choice s x whole from count may low few None a b c d = tt
 next_choice s x whole from count may low few (Some set) high subset within none = record {
   high = high;
@@ -208,7 +205,7 @@ next_choice s x whole from count may low few (Some set) high subset within none 
 
 pub no_choice : (s : Setting) (x : Node) (whole from : ℕ) → MaySubsets s x whole → (o : Option ℕ)
     → IfNone o ((set : ℕ) → from ≤ set → IsSubset set whole → ⊥)
-    → IfNone o (NoMoreMay (rules_of s) x from)
+    → IfNone o (NoMoreMay (search_rules s) x from)
 no_choice s x whole from may None none =
     λ choice above allowed. none choice above (may.others choice allowed)
 no_choice s x whole from may (Some set) none = tt

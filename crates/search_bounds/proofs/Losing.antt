@@ -15,7 +15,7 @@ use Rattle.view_measures.specs.declared.measure.Measure.{Measure}
 use Rattle.view_measures.specs.Measures.{figure}
 use Rattle.search_peaks.specs.Peaks.{Peaks, told}
 use Rattle.law_bounds.specs.Lost.{IsWithoutLost, LoseNothing, LostChangeNothing}
-use Rattle.law_bounds.specs.Nodes.{AreNoted, IsNext, May, Node, Setting, StandsFor, rules_of}
+use Rattle.law_bounds.specs.Nodes.{AreNoted, IsNext, May, Node, Setting, StandsFor, search_rules}
 use Rattle.law_bounds.specs.Trying.{OneStateTells, TellsAll}
 use Rattle.search_bounds.specs.Held.{IsIn}
 use Rattle.search_nodes.specs.Ground.{IsGround}
@@ -96,7 +96,7 @@ module _ (e : Explorer) (x : Node) (set fewer : ℕ) (m : Machine) (tells : OneS
   pub repeats_it : fewer < set → (peaks : Peaks)
       → ((i : ℕ) → i < length (setting_of e).system.routines → IsTrue (arrives_in set i)
       → arrives_in fewer i ≡ false → 1 ≤ told peaks (figure Measure.Loss i))
-      → Repeats (rules_of (setting_of e)) (AreNoted (setting_of e) peaks) x set fewer
+      → Repeats (search_rules (setting_of e)) (AreNoted (setting_of e) peaks) x set fewer
   repeats_it low peaks losses = record {
     low = low;
     may = may_fewer low;

@@ -9,12 +9,13 @@ use Rattle.search_peaks.specs.Peaks.{Peaks}
 use Rattle.law_bounds.specs.Nodes.{AreNoted, Node, Setting, lower_from, routines_of, seen_from}
 use Rattle.search_nodes.specs.Ground.{Ground}
 use Rattle.search_bounds.specs.declared.ruling.Ruling.{Ruling}
+use Rattle.arrival_rules.specs.declared.rule.ArrivalRule.{ArrivalRule}
 
 -- what a search goes by, and the greatest times that it has noted
 pub record Explorer : Type 0 where
   pub ground : Ground
   pub mode : ℕ
-  pub distances : List ℕ
+  pub rules : List ArrivalRule
   pub cap : ℕ
   pub peaks : Peaks
 
@@ -23,7 +24,7 @@ explorer_of r peaks =
     record {
       ground = record { system = r.system.now; needs = r.needs.now };
       mode = r.mode;
-      distances = r.distances.now;
+      rules = r.rules.now;
       cap = r.cap;
       peaks = peaks;
     }
@@ -34,7 +35,7 @@ setting_of e =
       system = e.ground.system;
       mode = e.mode;
       need = need_of e.ground.needs;
-      distances = e.distances;
+      rules = e.rules;
       cap = e.cap;
     }
 
@@ -47,7 +48,7 @@ setting_by r =
       system = r.system.now;
       mode = r.mode;
       need = need_of r.needs.now;
-      distances = r.distances.now;
+      rules = r.rules.now;
       cap = r.cap;
     }
 
@@ -56,4 +57,4 @@ pub record IsBehind (s : Setting) (set : ℕ) (o : Kept) (l : Labels) (y : Node)
   pub key : y.key ≡ key s.system s.need (tick_in s.system (routines_of s set) o).after
   pub over : y.over ≡ (tick_in s.system (routines_of s set) o).after.over
   pub labels : y.labels
-      ≡ next_labels (lower_from s set o) s.cap s.distances set (seen_from s set o) l
+      ≡ next_labels (lower_from s set o) s.cap s.rules set (seen_from s set o) l

@@ -11,6 +11,7 @@ ghost use Rattle.search_bounds.specs.Above.{
 };
 
 use crate::finding::find_bounds;
+use arrival_rules::ArrivalRule;
 use law_upper::{
     bounded_interrupts_start_above, bounded_upper_holds_end, bounded_upper_jobs_end,
     bounds_of_the_part_hold,
@@ -30,7 +31,7 @@ pub struct UpperBounds {
 }
 
 /// Searches all states that the upper part of a system at p comes to by itself in a mode, whatever
-/// interrupts arrive whose distances, in ticks by routine, are kept; 1 where none is given.
+/// interrupts arrive whose rules, in ticks by routine, are kept; 1 where none is given.
 ///
 /// Where the search is decided, the bounds hold inside the system, and inside every system that is
 /// separable at p and agrees with it from p upward, whatever runs below: of upper tasks, all
@@ -45,20 +46,20 @@ pub fn find_upper_bounds<W: Watch>(
     system: &System,
     p: u8,
     mode: ModeId,
-    distances: &[u32],
+    rules: &[ArrivalRule],
     extent: Extent,
     watch: &mut W,
 ) -> Result<UpperBounds, AllocError>
     requires { Separable system.now p }
     ensures part { IfOk result (λ upper. upper.part ≡ upper_part system.now p) }
     ensures found { IfOk result (λ upper.
-        HoldAbove system.now p mode distances.now upper.bounds) }
+        HoldAbove system.now p mode rules.now upper.bounds) }
     ensures ends { IfOk result (λ upper.
-        JobsEndAbove system.now p mode distances.now upper.bounds) }
+        JobsEndAbove system.now p mode rules.now upper.bounds) }
     ensures starts { IfOk result (λ upper.
-        InterruptsStartAbove system.now p mode distances.now upper.bounds) }
+        InterruptsStartAbove system.now p mode rules.now upper.bounds) }
     ensures releases { IfOk result (λ upper.
-        HoldsEndAbove system.now p mode distances.now upper.bounds) }
+        HoldsEndAbove system.now p mode rules.now upper.bounds) }
 {
     system.shows_proper();
     bounds_of_the_part_hold();
@@ -66,6 +67,6 @@ pub fn find_upper_bounds<W: Watch>(
     bounded_interrupts_start_above();
     bounded_upper_holds_end();
     let part = upper_only(alloc, system, p)?;
-    let bounds = find_bounds(alloc, &part, mode, distances, extent, watch)?;
+    let bounds = find_bounds(alloc, &part, mode, rules, extent, watch)?;
     Ok(UpperBounds { part, bounds })
 }

@@ -1,5 +1,5 @@
 //! The search through all states that a system comes to in a mode, whatever interrupts arrive that
-//! keep their distances.
+//! keep their rules.
 
 ghost use Rattle.std.specs.Prelude.{◌≡◌, IfOk, Ok};
 ghost use Rattle.search_nodes.specs.Ground.{IsGround};
@@ -12,6 +12,7 @@ use crate::room::Room;
 use crate::routines::pending_routines;
 use crate::ruling::Ruling;
 use crate::states::States;
+use arrival_rules::ArrivalRule;
 use kernel::Machine;
 use law_bounds::{lost_change_nothing, nodes_are_kept, notes_stay, one_state_tells, subsets_may};
 use osek_base::{ModeId, System};
@@ -69,7 +70,7 @@ fn both<A: Drop, B: Drop>(
 impl<'s, 'w, W: Watch> Explorer<'s, 'w, W> {
     ghost use Rattle.std.specs.Prelude.{IfSome};
     ghost use Rattle.search.specs.Rules.{Repeats, StaysNoted};
-    ghost use Rattle.law_bounds.specs.Nodes.{May, rules_of};
+    ghost use Rattle.law_bounds.specs.Nodes.{May, search_rules};
     ghost use Rattle.search_bounds.specs.Exploring.{AreNotedIn, setting_of};
 
     /// Nothing was tried yet.
@@ -78,7 +79,7 @@ impl<'s, 'w, W: Watch> Explorer<'s, 'w, W> {
         system: &'s System,
         needs: &'s Needs,
         mode: ModeId,
-        distances: &'s [u32],
+        rules: &'s [ArrivalRule],
         cap: u32,
         watch: &'w mut W,
     ) -> Result<Self, AllocError>
@@ -86,7 +87,7 @@ impl<'s, 'w, W: Watch> Explorer<'s, 'w, W> {
         ensures system { IfOk result (λ e. e.ground.system ≡ system.now) }
         ensures needs { IfOk result (λ e. e.ground.needs ≡ needs.now) }
         ensures mode { IfOk result (λ e. e.mode ≡ mode) }
-        ensures distances { IfOk result (λ e. e.distances ≡ distances.now) }
+        ensures rules { IfOk result (λ e. e.rules ≡ rules.now) }
         ensures cap { IfOk result (λ e. e.cap ≡ cap) }
     {
         let current = Machine::boot(alloc, system, mode);
@@ -98,7 +99,7 @@ impl<'s, 'w, W: Watch> Explorer<'s, 'w, W> {
                 system,
                 needs,
                 mode,
-                distances,
+                rules,
                 cap,
             },
             states,
@@ -118,7 +119,7 @@ impl<'s, 'w, W: Watch> Explorer<'s, 'w, W> {
         ensures setting { setting_of self.new ≡ setting_of self.old }
         ensures notes { StaysNoted AreNotedIn self.old self.new }
         ensures repeats { IfOk result (λ found. IfSome found
-            (Repeats (rules_of (setting_of self.old)) (AreNotedIn self.new) node.now set)) }
+            (Repeats (search_rules (setting_of self.old)) (AreNotedIn self.new) node.now set)) }
     {
         let Some(machine) = self.states.at(node.key()) else {
             return Ok(None);
@@ -176,7 +177,7 @@ impl<'s, 'w, W: Watch> Explorer<'s, 'w, W> {
 }
 
 impl<'s, 'w, W: Watch> Steps for Explorer<'s, 'w, W> {
-    ghost use Rattle.law_bounds.specs.Nodes.{Setting as Rulings, rules_of};
+    ghost use Rattle.law_bounds.specs.Nodes.{Setting as Rulings, search_rules};
     ghost use Rattle.search_bounds.specs.Exploring.{AreNotedIn, setting_of};
 
     type Node = Node;
@@ -185,7 +186,7 @@ impl<'s, 'w, W: Watch> Steps for Explorer<'s, 'w, W> {
 
     ghost setting = { setting_of };
 
-    ghost rules = { rules_of };
+    ghost rules = { search_rules };
 
     ghost is_noted = { AreNotedIn };
 
@@ -194,7 +195,8 @@ impl<'s, 'w, W: Watch> Steps for Explorer<'s, 'w, W> {
         boot_again(alloc, system, self.ruling.mode, &mut self.current)?;
         let tasks = system.task_count();
         let routines = system.routine_count();
-        let labels = Labels::first(alloc, tasks, routines, held_count(system))?;
+        let rules = self.ruling.rules.len();
+        let labels = Labels::first(alloc, rules, tasks, routines, held_count(system))?;
         let node = node_of(&self.current, self.ruling.needs, &labels, Vec::new(alloc));
         // Dropped by one call, kept out of line: smaller code.
         mem::drop(labels);
@@ -206,7 +208,8 @@ impl<'s, 'w, W: Watch> Steps for Explorer<'s, 'w, W> {
             return None;
         }
         subsets_may();
-        let free = free_routines(node.packed(), self.ruling.system.routine_count());
+        let routines = self.ruling.system.routine_count();
+        let free = free_routines(node.packed(), self.ruling.rules, routines);
         subset_from(free, from)
     }
 

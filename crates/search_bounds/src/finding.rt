@@ -10,6 +10,7 @@ ghost use Rattle.search_nodes.specs.Found.{
 };
 
 use crate::explorer::Explorer;
+use arrival_rules::ArrivalRule;
 use law_bounds::{
     bounded_holds_end, bounded_interrupts_start, bounded_jobs_end, levels_bound, searches_bound,
 };
@@ -36,15 +37,15 @@ pub fn find_bounds<W: Watch>(
     alloc: Global,
     system: &System,
     mode: ModeId,
-    distances: &[u32],
+    rules: &[ArrivalRule],
     extent: Extent,
     watch: &mut W,
 ) -> Result<Bounds, AllocError>
-    ensures found { IfOk result (AreFound system.now mode distances.now) }
-    ensures ends { IfOk result (JobsEnd system.now mode distances.now) }
-    ensures starts { IfOk result (InterruptsStart system.now mode distances.now) }
-    ensures releases { IfOk result (HoldsEnd system.now mode distances.now) }
-    ensures searched { IfOk result (IsOfSearch system.now mode distances.now extent) }
+    ensures found { IfOk result (AreFound system.now mode rules.now) }
+    ensures ends { IfOk result (JobsEnd system.now mode rules.now) }
+    ensures starts { IfOk result (InterruptsStart system.now mode rules.now) }
+    ensures releases { IfOk result (HoldsEnd system.now mode rules.now) }
+    ensures searched { IfOk result (IsOfSearch system.now mode rules.now extent) }
     ensures cap { IfOk result (λ found. found.cap ≡ extent.cap) }
 {
     system.shows_proper();
@@ -53,7 +54,7 @@ pub fn find_bounds<W: Watch>(
     bounded_jobs_end();
     bounded_interrupts_start();
     bounded_holds_end();
-    searched_bounds(alloc, system, mode, distances, extent, watch)
+    searched_bounds(alloc, system, mode, rules, extent, watch)
 }
 
 /// What a search comes to, as [`find_bounds`] says of it.
@@ -61,16 +62,16 @@ fn searched_bounds<W: Watch>(
     alloc: Global,
     system: &System,
     mode: ModeId,
-    distances: &[u32],
+    rules: &[ArrivalRule],
     extent: Extent,
     watch: &mut W,
 ) -> Result<Bounds, AllocError>
-    ensures searched { IfOk result (IsOfSearch system.now mode distances.now extent) }
+    ensures searched { IfOk result (IsOfSearch system.now mode rules.now extent) }
     ensures cap { IfOk result (λ found. found.cap ≡ extent.cap) }
 {
     system.shows_proper();
     let needs = needed_data(alloc, system)?;
-    let mut explorer = Explorer::new(alloc, system, &needs, mode, distances, extent.cap, watch)?;
+    let mut explorer = Explorer::new(alloc, system, &needs, mode, rules, extent.cap, watch)?;
     let limits = Limits {
         nodes: extent.nodes,
         visits: extent.visits,

@@ -1,9 +1,9 @@
 //! Bounds over every run. Where `find_bounds` decides, no run whose interrupts keep the given
-//! distances has longer responses, latencies or holds than it tells, and nothing goes wrong that
+//! rules has longer responses, latencies or holds than it tells, and nothing goes wrong that
 //! it doesn't tell. `find_upper_bounds` says this of an upper part inside every accepted system.
 //!
 //! - `find_bounds`: where the search is decided, for every list of arrivals that keeps the
-//!   distances and after every number of ticks, the run shows of no figure more than the peaks
+//!   rules and after every number of ticks, the run shows of no figure more than the peaks
 //!   tell, where that is below the cap. That holds of the figures of whole runs (as defined in
 //!   `view_figures`; of blockers where the run's observations tell them, `AreTold`) and of what
 //!   each single tick shows (`IsTickWithin`).

@@ -72,14 +72,8 @@ impl Room {
         put_routines(set, ruling.system.routine_count(), &mut self.arrived)?;
         tick_from(from, machine, &self.arrived, &mut self.watcher);
         let seen = self.watcher.seen();
-        self.labels.become_next(
-            ruling.system,
-            ruling.cap,
-            ruling.distances,
-            set,
-            seen,
-            labels,
-        )?;
+        self.labels
+            .become_next(ruling.system, ruling.cap, ruling.rules, set, seen, labels)?;
         let bytes = mem::replace(&mut self.bytes, Vec::new(alloc));
         node_of(machine, ruling.needs, &self.labels, bytes)
     }

@@ -1,5 +1,6 @@
 //! What a search goes by.
 
+use arrival_rules::ArrivalRule;
 use osek_base::{ModeId, System};
 use search_needs::Needs;
 
@@ -9,8 +10,8 @@ pub(crate) struct Ruling<'s> {
     pub(crate) system: &'s System,
     pub(crate) needs: &'s Needs,
     pub(crate) mode: ModeId,
-    /// By routine, in ticks.
-    pub(crate) distances: &'s [u32],
+    /// How interrupts come.
+    pub(crate) rules: &'s [ArrivalRule],
     /// The age up to which times are told, in ticks.
     pub(crate) cap: u32,
 }

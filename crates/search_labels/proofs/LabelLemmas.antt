@@ -14,10 +14,10 @@ use Rattle.search_labels.specs.Labels.{Labels, ages_of, hold_of, no_hold, pendin
 use Rattle.search_labels.specs.Parts.{hold_at}
 use Rattle.search_labels.specs.Joining.{AreJoinable, AreOfAsMany, IsJoined, has_held, joined_hold}
 
-pub labels_same : (l m : Labels) → l.waits ≡ m.waits → l.ages ≡ m.ages → l.pending ≡ m.pending
+pub labels_same : (l m : Labels) → l.debts ≡ m.debts → l.ages ≡ m.ages → l.pending ≡ m.pending
     → l.holds ≡ m.holds → l.blocked ≡ m.blocked → l ≡ m
 labels_same l m w a p h b =
-    ap (λ v. record l { waits = v }) w ∙ ap (λ v. record l { waits = m.waits; ages = v }) a
+    ap (λ v. record l { debts = v }) w ∙ ap (λ v. record l { debts = m.debts; ages = v }) a
     ∙ ap (λ v. record m { pending = v; holds = l.holds; blocked = l.blocked }) p
     ∙ ap (λ v. record m { holds = v; blocked = l.blocked }) h
     ∙ ap (λ v. record m { blocked = v }) b
@@ -101,19 +101,19 @@ joinable_at xs ys holds others e k joinable r =
 
 pub labels_joined : (l m joined : Labels) → AreOfAsMany l m
     → ((r : ℕ) → AreJoinable (hold_of l r) (hold_of m r))
-    → IsListJoined min 0 l.waits m.waits joined.waits
+    → IsListJoined min 0 l.debts m.debts joined.debts
     → IsListJoined merged_ages [] l.ages m.ages joined.ages
     → IsListJoined merged_age None l.pending m.pending joined.pending
     → IsListJoined joined_hold no_hold l.holds m.holds joined.holds
     → IsListJoined max 0 l.blocked m.blocked joined.blocked → IsJoined l m joined
 labels_joined l m joined many joinable w a p held b = record {
-  waits = w.each;
+  debts = w.each;
   ages = a.each;
   pending = p.each;
   holds = held.each;
   blocked = b.each;
   one = record {
-    routines = w.count;
+    rules = w.count;
     tasks = a.count;
     interrupts = p.count;
     resources = held.count;
@@ -128,7 +128,7 @@ labels_joined l m joined many joinable w a p held b = record {
     blocked = λ k. omega (arith, b.each k);
   };
   other = record {
-    routines = w.count ∙ many.routines;
+    rules = w.count ∙ many.rules;
     tasks = a.count ∙ many.tasks;
     interrupts = p.count ∙ many.interrupts;
     resources = held.count ∙ many.resources;
@@ -143,7 +143,7 @@ labels_joined l m joined many joinable w a p held b = record {
     blocked = λ k. omega (arith, b.each k);
   };
   least = λ n h k. record {
-    routines = h.routines ∙ sym w.count;
+    rules = h.rules ∙ sym w.count;
     tasks = h.tasks ∙ sym a.count;
     interrupts = h.interrupts ∙ sym p.count;
     resources = h.resources ∙ sym held.count;

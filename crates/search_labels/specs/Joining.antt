@@ -2,11 +2,11 @@
 use Rattle.std.specs.Prelude.{ℕ, ◌≡◌, Bool, true, false, if◌then◌else◌, ◌&&◌, is_some, length, max, min, nat_lt}
 use Rattle.law_figures.specs.Holding.{Hold}
 use Rattle.law_figures.specs.Merging.{merged_age, merged_ages, merged_hold}
-use Rattle.search_labels.specs.Labels.{Labels, IsAtLeast, ages_of, blocked_of, hold_of, pending_of, wait_of}
+use Rattle.search_labels.specs.Labels.{Labels, IsAtLeast, ages_of, blocked_of, hold_of, pending_of, debt_of}
 
 -- labels of as many things
 pub record AreOfAsMany (l m : Labels) : Type 0 where
-  pub routines : length l.waits ≡ length m.waits
+  pub rules : length l.debts ≡ length m.debts
   pub tasks : length l.ages ≡ length m.ages
   pub interrupts : length l.pending ≡ length m.pending
   pub resources : length l.holds ≡ length m.holds
@@ -25,9 +25,9 @@ abbrev pub AreJoinable : Hold → Hold → Type 0
 AreJoinable hold other =
     has_held hold ≡ true → has_held other ≡ true → hold.holder ≡ other.holder
 
--- the shorter waits and the greater ages of two: the least labels that are at least both
+-- the shorter debts and the greater ages of two: the least labels that are at least both
 pub record IsJoined (l m joined : Labels) : Type 0 where
-  pub waits : (i : ℕ) → wait_of joined i ≡ min (wait_of l i) (wait_of m i)
+  pub debts : (n : ℕ) → debt_of joined n ≡ min (debt_of l n) (debt_of m n)
   pub ages : (k : ℕ) → ages_of joined k ≡ merged_ages (ages_of l k) (ages_of m k)
   pub pending : (i : ℕ) → pending_of joined i ≡ merged_age (pending_of l i) (pending_of m i)
   pub holds : (r : ℕ) → hold_of joined r ≡ joined_hold (hold_of l r) (hold_of m r)

@@ -1,7 +1,10 @@
 -- What labels tell, list by list, and what they show in a tick.
-use Rattle.std.specs.Prelude.{ℕ, suc, ◌≡◌, ◌+◌, ◌&&◌, ◌||◌, Bool, false, cond, if◌then◌else◌, ◌-◌, ◌++◌, min, List, [], map, length, replicate, Option, None, slice_index_or}
+use Rattle.std.specs.Prelude.{ℕ, suc, ◌≡◌, ◌+◌, ◌&&◌, ◌||◌, Bool, false, cond, ◌-◌, ◌++◌, min, List, [], map, length, replicate, Option, None, slice_index_or}
 use Rattle.std.specs.Option.{option_map}
 use Rattle.osek_base.specs.Lists.{below}
+use Rattle.arrival_rules.specs.declared.rule.ArrivalRule.{ArrivalRule}
+use Rattle.arrival_rules.specs.Debts.{next_debt}
+use Rattle.arrival_rules.specs.Rules.{rule_at}
 use Rattle.view_figures.specs.ResponseSums.{later}
 use Rattle.law_figures.specs.Ages.{ages_next, oldest_age}
 use Rattle.law_figures.specs.Blocking.{blocked_in, blocked_next, stands_ready}
@@ -11,11 +14,11 @@ use Rattle.law_figures.specs.Pending.{pending_next}
 use Rattle.law_figures.specs.Times.{waited}
 use Rattle.seen_ticks.specs.declared.task_seen.TaskSeen.{TaskSeen}
 use Rattle.seen_ticks.specs.Seen.{Seen}
-use Rattle.search_labels.specs.Labels.{Labels, ages_of, arrives_in, blocked_of, capped_hold, distance_of, hold_of, no_hold, pending_of}
+use Rattle.search_labels.specs.Labels.{Labels, ages_of, arrives_in, blocked_of, capped_hold, hold_of, no_hold, pending_of}
 use Rattle.search_labels.specs.Ticks.{blocked_tick, holder_tick, is_above, routine_tick, task_tick}
 
-abbrev pub wait_at : List ℕ → ℕ → ℕ
-wait_at waits i = slice_index_or waits i 0
+abbrev pub debt_at : List ℕ → ℕ → ℕ
+debt_at debts n = slice_index_or debts n 0
 
 abbrev pub ages_at : List (List ℕ) → ℕ → List ℕ
 ages_at ages k = slice_index_or ages k []
@@ -31,9 +34,9 @@ blocked_at blocked k = slice_index_or blocked k 0
 
 -- ---- behind a tick
 
-abbrev pub wait_behind : List ℕ → ℕ → List ℕ → ℕ → ℕ
-wait_behind distances set waits i =
-    (if arrives_in set i then distance_of distances i else wait_at waits i) - 1
+abbrev pub debt_behind : List ArrivalRule → ℕ → List ℕ → ℕ → ℕ
+debt_behind rules set debts n =
+    next_debt (rule_at rules n) (arrives_in set (rule_at rules n).routine) (debt_at debts n)
 
 abbrev pub ages_behind : ℕ → Seen → List (List ℕ) → ℕ → List ℕ
 ages_behind cap seen ages k = map (min cap) (ages_next (task_tick seen k) (ages_at ages k))

@@ -19,7 +19,7 @@ ghost use Rattle.search_labels.specs.Labels.{
   hold_of,
   next_labels,
   pending_of,
-  wait_of,
+  debt_of,
 };
 ghost use Rattle.search_labels.specs.Joining.{AreOfAsMany, Joins};
 ghost use Rattle.search_labels.specs.Parts.{IsIdle};
@@ -28,6 +28,7 @@ use crate::age_lists::{AgeLists, are_older as are_jobs_older};
 use crate::blocked::{
     are_at_least, blocked_in, blocked_of, first_blocked, join_blocked, put_next_blocked,
 };
+use crate::debts::{are_less, first_debts, join_debts, put_next_debts};
 use crate::holds::{
     Hold, are_joinable, are_longer, first_holds, hold_of, join_holds, put_next_holds,
 };
@@ -35,19 +36,19 @@ use crate::pending::{
     are_older, first_pending, is_older, join_pending, pending_of, put_next_pending, waited,
 };
 use crate::ticks::is_jobless;
-use crate::waits::{are_sooner, first_waits, join_waits, put_next_waits, wait_of};
+use arrival_rules::ArrivalRule;
 use osek_base::{System, TaskId};
 use seen_ticks::{Observation, TaskSeen};
 use std::alloc::{AllocError, Global};
 use std::marker::Model;
 use view_figures::{HolderTick, RoutineTick, TaskTick};
 
-/// For how many ticks yet interrupts can't arrive, and for how many ticks jobs stand ready or run,
-/// interrupts are pending, resources are held and jobs have been blocked at most, each up to a cap.
+/// What interrupts owe by the rules by which they come, and for how many ticks jobs stand ready or
+/// run, interrupts are pending, resources are held and jobs have been blocked at most, each up to a cap.
 #[derive(Drop)]
 pub struct Labels {
-    /// By routine, for how many ticks yet it can't arrive.
-    waits: Vec<u32>,
+    /// By rule, in ticks.
+    debts: Vec<u32>,
     /// By task.
     ages: AgeLists,
     /// By routine, the age of its interrupt, if one is pending.
@@ -64,7 +65,7 @@ impl Model for Labels {
     ghost Value = { Told };
 
     ghost view = { λ l. record {
-      waits = l.waits.items;
+      debts = l.debts.items;
       ages = l.ages;
       pending = l.pending.items;
       holds = l.holds.items;
@@ -73,18 +74,19 @@ impl Model for Labels {
 }
 
 impl Labels {
-    /// Those after boot, of so many tasks, routines and resources that can be held. An error is
-    /// that there is no memory.
+    /// Those after boot, of so many rules, tasks, routines and resources that can be held. An error
+    /// is that there is no memory.
     pub fn first(
         alloc: Global,
+        rules: usize,
         tasks: usize,
         routines: usize,
         held: usize,
     ) -> Result<Labels, AllocError>
-        ensures { IfOk result (λ l. l ≡ first_labels tasks routines held) }
+        ensures { IfOk result (λ l. l ≡ first_labels rules tasks routines held) }
     {
         Ok(Labels {
-            waits: first_waits(alloc, routines)?,
+            debts: first_debts(alloc, rules)?,
             ages: AgeLists::none(alloc, tasks)?,
             pending: first_pending(alloc, routines)?,
             holds: first_holds(alloc, held)?,
@@ -94,10 +96,10 @@ impl Labels {
 
     /// Of no thing.
     pub fn new(alloc: Global) -> Labels
-        ensures { result ≡ first_labels 0 0 0 }
+        ensures { result ≡ first_labels 0 0 0 0 }
     {
         Labels {
-            waits: Vec::new(alloc),
+            debts: Vec::new(alloc),
             ages: AgeLists::new(alloc),
             pending: Vec::new(alloc),
             holds: Vec::new(alloc),
@@ -105,23 +107,23 @@ impl Labels {
         }
     }
 
-    /// They become those behind a tick of a system in which the routines of a set arrive. Distances
-    /// are in ticks, and so is the cap, up to which ages go. An error is that there is no memory;
+    /// They become those behind a tick of a system in which the routines of a set arrive. The cap, up
+    /// to which ages go, is in ticks. An error is that there is no memory;
     /// the labels may have any values then.
     pub fn become_next(
         &mut self,
         system: &System,
         cap: u32,
-        distances: &[u32],
+        rules: &[ArrivalRule],
         set: u64,
         seen: &Observation,
         old: &Labels,
     ) -> Result<(), AllocError>
         ensures { OnOk result (self.new ≡ next_labels
             (lower_executes (levels_of system.now) seen.now.executor)
-            cap distances.now set (seen_of seen.now) old.now) }
+            cap rules.now set (seen_of seen.now) old.now) }
     {
-        put_next_waits(&mut self.waits, distances, set, &old.waits)?;
+        put_next_debts(&mut self.debts, rules, set, &old.debts)?;
         self.ages.become_next(cap, seen, &old.ages)?;
         put_next_pending(&mut self.pending, cap, seen, &old.pending)?;
         put_next_holds(&mut self.holds, cap, seen, &old.holds)?;
@@ -129,25 +131,18 @@ impl Labels {
         Ok(())
     }
 
-    /// For how many ticks yet a routine can't arrive; 0 beyond the last routine.
-    pub fn wait(&self, routine: usize) -> u32
-        ensures { result ≡ wait_of self.now routine }
+    /// Whether as much is owed as with other labels.
+    pub fn has_same_debts(&self, other: &Labels) -> bool
+        ensures { IsTrue result → self.now.debts ≡ other.now.debts }
     {
-        wait_of(&self.waits, routine)
+        self.debts.as_slice() == other.debts.as_slice()
     }
 
-    /// Whether interrupts can arrive as soon as with other labels.
-    pub fn has_same_waits(&self, other: &Labels) -> bool
-        ensures { IsTrue result → self.now.waits ≡ other.now.waits }
+    /// By rule, what interrupts of its routine owe, in ticks.
+    pub fn debts(&self) -> &[u32]
+        ensures { result.now ≡ self.now.debts }
     {
-        self.waits.as_slice() == other.waits.as_slice()
-    }
-
-    /// By routine, for how many ticks yet it can't arrive.
-    pub fn waits(&self) -> &[u32]
-        ensures { result.now ≡ self.now.waits }
-    {
-        &self.waits
+        &self.debts
     }
 
     /// Of how many tasks they are.
@@ -230,7 +225,7 @@ impl Labels {
     fn is_of_as_many(&self, other: &Labels) -> bool
         ensures { IsTrue result → AreOfAsMany self.now other.now }
     {
-        self.waits.len() == other.waits.len()
+        self.debts.len() == other.debts.len()
             && self.ages.len() == other.ages.len()
             && self.pending.len() == other.pending.len()
             && self.holds.len() == other.holds.len()
@@ -279,7 +274,7 @@ impl Labels {
         if !self.is_of_as_many(other) {
             return false;
         }
-        are_sooner(&self.waits, &other.waits)
+        are_less(&self.debts, &other.debts)
             && are_older(&self.pending, &other.pending)
             && are_longer(&self.holds, &other.holds)
             && are_at_least(&self.blocked, &other.blocked)
@@ -296,7 +291,7 @@ impl Labels {
             return Ok(false);
         }
         self.ages.join(&other.ages)?;
-        join_waits(&mut self.waits, &other.waits);
+        join_debts(&mut self.debts, &other.debts);
         join_pending(&mut self.pending, &other.pending);
         join_holds(&mut self.holds, &other.holds);
         join_blocked(&mut self.blocked, &other.blocked);
@@ -309,22 +304,22 @@ impl Labels {
 impl Labels {
     /// Of no thing any more.
     pub fn clear(&mut self)
-        ensures { self.new ≡ first_labels 0 0 0 }
+        ensures { self.new ≡ first_labels 0 0 0 0 }
     {
-        self.waits.clear();
+        self.debts.clear();
         self.ages.clear();
         self.pending.clear();
         self.holds.clear();
         self.blocked.clear();
     }
 
-    /// One more routine, and for how many ticks yet it can't arrive.
+    /// What interrupts owe by one more rule, in ticks.
     #[inline(always)]
-    pub fn push_wait(&mut self, wait: u32) -> Result<(), AllocError>
+    pub fn push_debt(&mut self, debt: u32) -> Result<(), AllocError>
         ensures { OnOk result
-            (self.new ≡ record self.old { waits = self.old.waits ++ wait ∷ [] }) }
+            (self.new ≡ record self.old { debts = self.old.debts ++ debt ∷ [] }) }
     {
-        self.waits.push(wait)?;
+        self.debts.push(debt)?;
         Ok(())
     }
 

@@ -86,13 +86,13 @@ fn short(number: usize) -> u32 {
 /// Whether the ages of two nodes of one state can stand beside each other: where interrupts can
 /// arrive as soon in both, or the other stands for all that the one does.
 fn go_together(labels: &Labels, others: &Labels) -> bool {
-    labels.has_same_waits(others) || others.is_at_least(labels)
+    labels.has_same_debts(others) || others.is_at_least(labels)
 }
 
 /// Which labels others raise, where interrupts can arrive as soon in both. Else the others take
 /// their place.
 fn raised_by(system: &System, labels: &Labels, others: &Labels) -> Option<Raised> {
-    if labels.has_same_waits(others) {
+    if labels.has_same_debts(others) {
         Some(Raised::by(system, labels, others))
     } else {
         None

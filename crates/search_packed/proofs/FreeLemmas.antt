@@ -1,15 +1,17 @@
--- A set of the numbers at which a list has 0.
-use Rattle.std.proofs.Common.{ℕ, zero, suc, ◌≡◌, ◌≢◌, ◌<◌, ◌≤◌, ◌+◌, ◌-◌, ◌*◌, ◌%◌, ◌^◌, Bool, true, false, List, [], ◌∷◌, drop, get_or, length, add-one, refl, sym, ◌∙◌, ap, arith, inl, inr, w64}
+-- The routines that are free by rules, as a set, and the debts that bytes tell.
+use Rattle.std.proofs.Common.{ℕ, zero, suc, ◌≡◌, ◌≢◌, ◌<◌, ◌≤◌, ◌+◌, ◌-◌, ◌*◌, ◌%◌, ◌^◌, Bool, true, false, List, [], ◌∷◌, drop, get_or, length, add-one, refl, sym, ◌∙◌, ap, subst, arith, inl, inr, w64}
 use Rattle.std.proofs.Math.Nat.{mod-le}
-use Rattle.std.proofs.lemmas.Bool.{cases_eq, ltb-false, ltb-true}
+use Rattle.std.proofs.lemmas.Bool.{cases_eq, cases_lt, ltb-false, ltb-true}
 use Rattle.std.proofs.lemmas.Grind.{pow_more}
-use Rattle.std.proofs.lemmas.Nat.{or_lt, pow_pos}
-use Rattle.std.proofs.lemmas.Nat.Bits.{bit_at-zero, bit_at_set_same, bit_at_set_other}
+use Rattle.std.proofs.lemmas.Nat.{and_le_l, or_lt, pow_pos}
+use Rattle.std.proofs.lemmas.Nat.Bits.{bit_at-lt, bit_at_above, bit_at_and, bit_at_clear_other, bit_at_clear_same, bit_at_set_same, bit_at_set_other}
 use Rattle.std.specs.Prelude.{nat_lt}
-use Rattle.std.specs.Int.{bit_at}
-use Rattle.std.specs.Int.Bits.{bit_or}
+use Rattle.std.specs.Int.{bit_at, bit_not}
+use Rattle.std.specs.Int.Bits.{bit_and, bit_or}
+use Rattle.arrival_rules.specs.declared.rule.ArrivalRule.{ArrivalRule}
+use Rattle.arrival_rules.specs.Rules.{rule_at}
 use Rattle.search_keys.specs.Taken.{taken_count, taken_number}
-use Rattle.search_packed.specs.Unpacked.{taken_many, taken_wait, unpacked}
+use Rattle.search_packed.specs.Unpacked.{taken_many, taken_debt, unpacked}
 
 abbrev head_of : List ℕ → ℕ
 head_of [] = 0
@@ -19,116 +21,198 @@ abbrev tail_of : List ℕ → List ℕ
 tail_of [] = []
 tail_of (n ∷ ns) = ns
 
-pub record AreZeros (waits : List ℕ) (n set : ℕ) : Type 0 where
-  pub zeros : (i : ℕ) → i < n → get_or waits i 0 ≡ 0 → bit_at set i ≡ 1
-  pub others : (i : ℕ) → bit_at set i ≡ 1 → get_or waits i 0 ≡ 0
+-- ---- sets of routines
+
+pub record AreAll (n set : ℕ) : Type 0 where
+  pub all : (i : ℕ) → i < n → bit_at set i ≡ 1
   pub low : set < 2 ^ n
 
-module _ (waits : List ℕ) (n set : ℕ) (are : AreZeros waits n set) where
-  double : 2 ^ (n + 1) ≡ 2 ^ n * 2
-  double = pow_more 2 n
+pub none_yet : AreAll 0 0
+none_yet = record {
+  all = λ i low. absurd (omega (arith, low));
+  low = omega arith;
+}
 
-  -- the next number isn't in it
-  pub none_more : get_or waits n 0 ≢ 0 → AreZeros waits (n + 1) set
-  none_more not_zero = record {
-    zeros = λ i low none.
-        elim (cases_eq i n) [
-          | inl e ↦ absurd (not_zero (ap (λ k. get_or waits k 0) (sym e) ∙ none))
-          | inr ne ↦ are.zeros i (omega (arith, low, ne)) none
+pub one_more : (n set : ℕ) → AreAll n set → n < 64
+    → AreAll (n + 1) (bit_or set (1 * 2 ^ n % 2 ^ 64))
+one_more n set are inside = record {
+  all = λ i low.
+      elim (cases_eq i n) [
+        | inl e ↦ ap (bit_at with_next) e ∙ bit_at_set_same w64 set n inside
+        | inr ne ↦
+            bit_at_set_other w64 set n inside i ne ∙ are.all i (omega (arith, low, ne))
+      ];
+  low =
+      let double : 2 ^ (n + 1) ≡ 2 ^ n * 2 = pow_more 2 n in
+      let bit : 1 * 2 ^ n % 2 ^ 64 ≤ 1 * 2 ^ n = mod-le (1 * 2 ^ n) (2 ^ 64) in
+      let some = pow_pos n in
+      let under = are.low in
+      or_lt (n + 1) set (1 * 2 ^ n % 2 ^ 64) (omega (arith, under, double))
+      (omega (arith, bit, some, double));
+}
+  where
+    with_next : ℕ
+    with_next = bit_or set (1 * 2 ^ n % 2 ^ 64)
+
+-- one taken away
+module _ (set n : ℕ) (low : set < 2 ^ 64) where
+  abbrev left : ℕ
+  left = bit_and set (bit_not w64 (1 * 2 ^ n % 2 ^ 64))
+
+  pub is_away : n < 64 → (i : ℕ) → bit_at left i ≡ 1 → i ≢ n
+  is_away inside i is same =
+      let gone = bit_at_clear_same w64 set n inside in
+      let here : bit_at left n ≡ 1 = ap (bit_at left) (sym same) ∙ is in
+      omega (arith, gone, here)
+
+  pub others_stay : n < 64 → (i : ℕ) → i ≢ n → bit_at set i ≡ 1 → bit_at left i ≡ 1
+  others_stay inside i apart is = elim (cases_lt i 64) [
+    | inl small ↦ bit_at_clear_other w64 set n inside i small apart ∙ is
+    | inr high ↦
+        let none = bit_at_above set 64 i low high in
+        absurd (omega (arith, none, is))
+  ]
+
+  pub no_more : (i : ℕ) → bit_at left i ≡ 1 → bit_at set i ≡ 1
+  no_more i is =
+      let both = bit_at_and set (bit_not w64 (1 * 2 ^ n % 2 ^ 64)) i in
+      let small = bit_at-lt set i in
+      omega (arith, both, is, small)
+
+  pub is_less : left ≤ set
+  is_less = and_le_l set (bit_not w64 (1 * 2 ^ n % 2 ^ 64))
+
+-- beyond 64 nothing is in a set
+pub none_beyond : (set n : ℕ) → set < 2 ^ 64 → 64 ≤ n → (i : ℕ) → bit_at set i ≡ 1 → i ≢ n
+none_beyond set n low high i is same =
+    let none = bit_at_above set 64 n low high in
+    let here : bit_at set n ≡ 1 = ap (bit_at set) (sym same) ∙ is in
+    omega (arith, none, here)
+
+-- ---- those that are free by the first rules
+
+-- so many rules let the routines of a set come, and no others
+pub record AreFreeBy (rules : List ArrivalRule) (debts : List ℕ) (count n set : ℕ) : Type 0 where
+  pub free : (i : ℕ) → bit_at set i ≡ 1 → (m : ℕ) → m < n → (rule_at rules m).routine ≡ i
+      → get_or debts m 0 < (rule_at rules m).slack
+  pub others : (i : ℕ) → i < count
+      → ((m : ℕ) → m < n → (rule_at rules m).routine ≡ i
+      → get_or debts m 0 < (rule_at rules m).slack)
+      → bit_at set i ≡ 1
+  pub low : set < 2 ^ count
+
+pub free_by_none : (rules : List ArrivalRule) (debts : List ℕ) (count set : ℕ)
+    → ((i : ℕ) → i < count → bit_at set i ≡ 1) → set < 2 ^ count
+    → AreFreeBy rules debts count 0 set
+free_by_none rules debts count set all low = record {
+  free = λ i is m small. absurd (omega (arith, small));
+  others = λ i inside free. all i inside;
+  low = low;
+}
+
+module _ (rules : List ArrivalRule) (debts : List ℕ) (count n set : ℕ)
+    (are : AreFreeBy rules debts count n set) (rule : ArrivalRule) (is : rule ≡ rule_at rules n) where
+  -- the next rule lets its routine come
+  pub let_come : get_or debts n 0 < rule.slack → AreFreeBy rules debts count (n + 1) set
+  let_come below = record {
+    free = λ i there m small same.
+        elim (cases_eq m n) [
+          | inl e ↦
+              subst (λ k. get_or debts k 0 < (rule_at rules k).slack) (sym e)
+              (subst (λ (r : ArrivalRule). get_or debts n 0 < r.slack) is below)
+          | inr ne ↦ are.free i there m (omega (arith, small, ne)) same
         ];
-    others = are.others;
-    low = omega (arith, are.low, double);
+    others = λ i inside free. are.others i inside
+        (λ m small same. free m (omega (arith, small)) same);
+    low = are.low;
   }
 
-  -- the next number is put into it
-  abbrev with_next : ℕ
-  with_next = bit_or set (1 * 2 ^ n % 2 ^ 64)
-
-  pub one_more : n < 64 → get_or waits n 0 ≡ 0 → AreZeros waits (n + 1) with_next
-  one_more inside none = record {
-    zeros = λ i low is_zero.
-        elim (cases_eq i n) [
-          | inl e ↦ ap (bit_at with_next) e ∙ bit_at_set_same w64 set n inside
+  -- the next rule keeps its routine away
+  pub keep_away : (left : ℕ) → ((i : ℕ) → bit_at left i ≡ 1 → bit_at set i ≡ 1)
+      → ((i : ℕ) → bit_at left i ≡ 1 → i ≢ rule.routine)
+      → ((i : ℕ) → i ≢ rule.routine → bit_at set i ≡ 1 → bit_at left i ≡ 1) → left ≤ set
+      → rule.slack ≤ get_or debts n 0 → AreFreeBy rules debts count (n + 1) left
+  keep_away left less away stay small reached = record {
+    free = λ i there m under same.
+        elim (cases_eq m n) [
+          | inl e ↦
+              absurd (away i there
+              (sym same ∙ ap (λ k. (rule_at rules k).routine) e
+              ∙ ap (λ (r : ArrivalRule). r.routine) (sym is)))
+          | inr ne ↦ are.free i (less i there) m (omega (arith, under, ne)) same
+        ];
+    others = λ i inside free.
+        elim (cases_eq i rule.routine) [
+          | inl e ↦
+              let below = free n (omega arith)
+              (ap (λ (r : ArrivalRule). r.routine) (sym is) ∙ sym e) in
+              let reached_too : (rule_at rules n).slack ≤ get_or debts n 0 =
+              subst (λ (r : ArrivalRule). r.slack ≤ get_or debts n 0) is reached in
+              absurd (omega (arith, below, reached_too))
           | inr ne ↦
-              bit_at_set_other w64 set n inside i ne ∙ are.zeros i (omega (arith, low, ne)) is_zero
+              stay i ne (are.others i inside (λ m under same. free m (omega (arith, under)) same))
         ];
-    others = λ i is_set.
-        elim (cases_eq i n) [
-          | inl e ↦ ap (λ k. get_or waits k 0) e ∙ none
-          | inr ne ↦ are.others i (sym (bit_at_set_other w64 set n inside i ne) ∙ is_set)
-        ];
-    low =
-        let bit : 1 * 2 ^ n % 2 ^ 64 ≤ 1 * 2 ^ n = mod-le (1 * 2 ^ n) (2 ^ 64) in
-        let some = pow_pos n in
-        or_lt (n + 1) set (1 * 2 ^ n % 2 ^ 64) (omega (arith, are.low, double))
-        (omega (arith, bit, some, double));
+    low = (let under = are.low in omega (arith, under, small));
   }
 
--- ---- the waits that bytes tell, one by one
+-- ---- the debts that bytes tell, one by one
 
--- what is left of waits once some were taken
+-- what is left of debts once some were taken
 abbrev pub IsLeft : List ℕ → ℕ → ℕ → List ℕ → Type 0
-IsLeft waits told n rest = drop n waits ≡ (taken_many taken_number (told - n) rest).0
+IsLeft debts told n rest = drop n debts ≡ (taken_many taken_number (told - n) rest).0
 
 no_cons : (x : ℕ) (xs : List ℕ) → [] ≡ x ∷ xs → ⊥
 no_cons x xs same = (let long = ap length same in omega (arith, long))
 
-drop_next : (waits : List ℕ) (n wait : ℕ) (others : List ℕ) → drop n waits ≡ wait ∷ others
-    → (drop (suc n) waits ≡ others) × (get_or waits n 0 ≡ wait)
-drop_next [] zero wait others same = absurd (no_cons wait others same)
-drop_next (x ∷ xs) zero wait others same = (ap tail_of same, ap head_of same)
-drop_next [] (suc n) wait others same = absurd (no_cons wait others same)
-drop_next (x ∷ xs) (suc n) wait others same = drop_next xs n wait others same
+drop_next : (debts : List ℕ) (n debt : ℕ) (others : List ℕ) → drop n debts ≡ debt ∷ others
+    → (drop (suc n) debts ≡ others) × (get_or debts n 0 ≡ debt)
+drop_next [] zero debt others same = absurd (no_cons debt others same)
+drop_next (x ∷ xs) zero debt others same = (ap tail_of same, ap head_of same)
+drop_next [] (suc n) debt others same = absurd (no_cons debt others same)
+drop_next (x ∷ xs) (suc n) debt others same = drop_next xs n debt others same
 
-none_next : (waits : List ℕ) (n : ℕ) → drop n waits ≡ []
-    → (drop (suc n) waits ≡ []) × (get_or waits n 0 ≡ 0)
+none_next : (debts : List ℕ) (n : ℕ) → drop n debts ≡ []
+    → (drop (suc n) debts ≡ []) × (get_or debts n 0 ≡ 0)
 none_next [] zero same = (refl, refl)
 none_next (x ∷ xs) zero same = absurd (no_cons x xs (sym same))
 none_next [] (suc n) same = (refl, refl)
 none_next (x ∷ xs) (suc n) same = none_next xs n same
 
-pub record IsStep (waits : List ℕ) (told n : ℕ) (rest : List ℕ) (one : ℕ × List ℕ) : Type 0 where
-  pub left : IsLeft waits told (n + 1) one.1
-  pub wait : get_or waits n 0 ≡ one.0
+pub record IsStep (debts : List ℕ) (told n : ℕ) (rest : List ℕ) (one : ℕ × List ℕ) : Type 0 where
+  pub left : IsLeft debts told (n + 1) one.1
+  pub debt : get_or debts n 0 ≡ one.0
 
-pub told_step : (waits : List ℕ) (told n : ℕ) (rest : List ℕ) → n < told → IsLeft waits told n rest
-    → IsStep waits told n rest (taken_number rest)
-told_step waits told n rest some left =
+pub told_step : (debts : List ℕ) (told n : ℕ) (rest : List ℕ) → n < told → IsLeft debts told n rest
+    → IsStep debts told n rest (taken_number rest)
+told_step debts told n rest some left =
     let one = taken_number rest in
     let next : told - n ≡ suc (told - (n + 1)) = omega (arith, some) in
-    let step = drop_next waits n one.0 (taken_many taken_number (told - (n + 1)) one.1).0
+    let step = drop_next debts n one.0 (taken_many taken_number (told - (n + 1)) one.1).0
     (left ∙ ap (λ m. (taken_many taken_number m rest).0) next) in
-    record { left = ap (λ m. drop m waits) (add-one n) ∙ step.0; wait = step.1 }
+    record { left = ap (λ m. drop m debts) (add-one n) ∙ step.0; debt = step.1 }
 
-pub past_step : (waits : List ℕ) (told n : ℕ) (rest : List ℕ) → told ≤ n → IsLeft waits told n rest
-    → IsStep waits told n rest (0, rest)
-past_step waits told n rest none left =
+pub past_step : (debts : List ℕ) (told n : ℕ) (rest : List ℕ) → told ≤ n → IsLeft debts told n rest
+    → IsStep debts told n rest (0, rest)
+past_step debts told n rest none left =
     let no : told - n ≡ 0 = omega (arith, none) in
     let no_more : 0 ≡ told - (n + 1) = omega (arith, none) in
-    let step = none_next waits n (left ∙ ap (λ m. (taken_many taken_number m rest).0) no) in
+    let step = none_next debts n (left ∙ ap (λ m. (taken_many taken_number m rest).0) no) in
     record {
-      left = ap (λ m. drop m waits) (add-one n) ∙ step.0
+      left = ap (λ m. drop m debts) (add-one n) ∙ step.0
           ∙ ap (λ m. (taken_many taken_number m rest).0) no_more;
-      wait = step.1;
+      debt = step.1;
     }
 
-pub wait_step : (waits : List ℕ) (told n : ℕ) (rest : List ℕ) (b : Bool) → nat_lt n told ≡ b
-    → IsLeft waits told n rest → IsStep waits told n rest (taken_wait b rest)
-wait_step waits told n rest true is left = told_step waits told n rest (ltb-true n told is) left
-wait_step waits told n rest false is left = past_step waits told n rest (ltb-false n told is) left
+pub debt_step : (debts : List ℕ) (told n : ℕ) (rest : List ℕ) (b : Bool) → nat_lt n told ≡ b
+    → IsLeft debts told n rest → IsStep debts told n rest (taken_debt b rest)
+debt_step debts told n rest true is left = told_step debts told n rest (ltb-true n told is) left
+debt_step debts told n rest false is left = past_step debts told n rest (ltb-false n told is) left
 
 -- before the first one
-pub waits_left : (bytes : List ℕ) (told : ℕ) (rest : List ℕ) → told ≡ (taken_count bytes).0
-    → rest ≡ (taken_count bytes).1 → IsLeft (unpacked bytes).waits told 0 rest
+pub debts_left : (bytes : List ℕ) (told : ℕ) (rest : List ℕ) → told ≡ (taken_count bytes).0
+    → rest ≡ (taken_count bytes).1 → IsLeft (unpacked bytes).debts told 0 rest
 unfolding unpacked
-waits_left bytes told rest many same =
+debts_left bytes told rest many same =
     let all : told ≡ told - 0 = omega arith in
     ap (λ m. (taken_many taken_number m (taken_count bytes).1).0) (sym many ∙ all)
     ∙ ap (λ v. (taken_many taken_number (told - 0) v).0) (sym same)
-
-pub none_yet : (waits : List ℕ) → AreZeros waits 0 0
-none_yet waits = record {
-  zeros = λ i low. absurd (omega (arith, low));
-  others = λ i bit. absurd (let none = bit_at-zero i in omega (arith, bit, none));
-  low = omega arith;
-}

@@ -56,12 +56,12 @@ pub ruleset beside_laws = (
 -- ---- part behind part
 
 pub first_there : (old : List ℕ) (l : Labels)
-    → ((old ++ listed number l.waits) ++ listed ages_bytes l.ages) ++ count_bytes (length l.holds)
+    → ((old ++ listed number l.debts) ++ listed ages_bytes l.ages) ++ count_bytes (length l.holds)
     ≡ old ++ first_parts l
 first_there old l =
-    append_assoc (old ++ listed number l.waits) (listed ages_bytes l.ages)
+    append_assoc (old ++ listed number l.debts) (listed ages_bytes l.ages)
     (count_bytes (length l.holds))
-    ∙ append_assoc old (listed number l.waits)
+    ∙ append_assoc old (listed number l.debts)
     (listed ages_bytes l.ages ++ count_bytes (length l.holds))
 
 added : (old xs bytes : List ℕ) → bare xs ≡ bytes → IsAdded old (old ++ xs) bytes

@@ -131,9 +131,9 @@ hold_bare bytes =
 
 abbrev pub with_blocked : List ℕ → List (List ℕ) → List Hold → List (Option ℕ) → List ℕ × List ℕ
     → Labels
-with_blocked waits ages holds pending blocked =
+with_blocked debts ages holds pending blocked =
     record {
-      waits = waits;
+      debts = debts;
       ages = ages;
       pending = pending;
       holds = holds;
@@ -141,38 +141,38 @@ with_blocked waits ages holds pending blocked =
     }
 
 abbrev pub with_pending : List ℕ → List (List ℕ) → List Hold → List (Option ℕ) × List ℕ → Labels
-with_pending waits ages holds pending =
-    with_blocked waits ages holds pending.0
+with_pending debts ages holds pending =
+    with_blocked debts ages holds pending.0
     (taken_list_beside (length ages) taken_number pending.1)
 
 abbrev pub with_holds : List ℕ → List (List ℕ) → List Hold × List ℕ → Labels
-with_holds waits ages holds =
-    with_pending waits ages holds.0
-    (taken_list_beside (length waits) taken_optional holds.1)
+with_holds debts ages holds =
+    with_pending debts ages holds.0
+    (taken_list_beside (length debts) taken_optional holds.1)
 
 abbrev pub with_ages : List ℕ → List (List ℕ) × List ℕ → Labels
-with_ages waits ages = with_holds waits ages.0 (taken_list taken_hold ages.1)
+with_ages debts ages = with_holds debts ages.0 (taken_list taken_hold ages.1)
 
-abbrev pub with_waits : List ℕ × List ℕ → Labels
-with_waits waits = with_ages waits.0 (taken_list taken_ages waits.1)
+abbrev pub with_debts : List ℕ × List ℕ → Labels
+with_debts debts = with_ages debts.0 (taken_list taken_ages debts.1)
 
-pub unpacked_parts : (bytes : List ℕ) → unpacked bytes ≡ with_waits (taken_list taken_number bytes)
+pub unpacked_parts : (bytes : List ℕ) → unpacked bytes ≡ with_debts (taken_list taken_number bytes)
 unfolding unpacked
 unpacked_parts bytes = refl
 
 parts_bare : (bytes : List ℕ)
-    → with_waits (taken_list taken_number (bare bytes)) ≡ with_waits (taken_list taken_number bytes)
+    → with_debts (taken_list taken_number (bare bytes)) ≡ with_debts (taken_list taken_number bytes)
 parts_bare bytes =
-    let waits = taken_list taken_number bytes in
-    let ages = taken_list taken_ages waits.1 in
+    let debts = taken_list taken_number bytes in
+    let ages = taken_list taken_ages debts.1 in
     let holds = taken_list taken_hold ages.1 in
-    let pending = taken_list_beside (length waits.0) taken_optional holds.1 in
-    ap with_waits (list_bare taken_number number_bare bytes)
-    ∙ ap (with_ages waits.0) (list_bare taken_ages ages_bare waits.1)
-    ∙ ap (with_holds waits.0 ages.0) (list_bare taken_hold hold_bare ages.1)
-    ∙ ap (with_pending waits.0 ages.0 holds.0)
-    (list_beside_bare (length waits.0) taken_optional optional_bare holds.1)
-    ∙ ap (with_blocked waits.0 ages.0 holds.0 pending.0)
+    let pending = taken_list_beside (length debts.0) taken_optional holds.1 in
+    ap with_debts (list_bare taken_number number_bare bytes)
+    ∙ ap (with_ages debts.0) (list_bare taken_ages ages_bare debts.1)
+    ∙ ap (with_holds debts.0 ages.0) (list_bare taken_hold hold_bare ages.1)
+    ∙ ap (with_pending debts.0 ages.0 holds.0)
+    (list_beside_bare (length debts.0) taken_optional optional_bare holds.1)
+    ∙ ap (with_blocked debts.0 ages.0 holds.0 pending.0)
     (list_beside_bare (length ages.0) taken_number number_bare pending.1)
 
 pub unpacked_bare : (bytes : List ℕ) → unpacked (bare bytes) ≡ unpacked bytes

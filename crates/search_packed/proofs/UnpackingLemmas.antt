@@ -10,7 +10,7 @@ use Rattle.search_keys.specs.Taken.{IsReadBack, NumbersAreReadBack, taken_number
 use Rattle.search_labels.specs.Labels.{Labels}
 use Rattle.search_packed.specs.Packed.{ages_bytes, blocked_part, count_beside, hold_bytes, last_parts, listed, listed_beside, packed, parts, pending_part}
 use Rattle.search_packed.specs.Unpacked.{PackedAreTold, ages_behind, beside_behind, taken_ages, taken_beside, taken_hold, taken_list, taken_list_beside, taken_many}
-use Rattle.search_packed.proofs.UnbareLemmas.{held_behind, unpacked_bare, unpacked_parts, with_ages, with_blocked, with_holds, with_pending, with_waits}
+use Rattle.search_packed.proofs.UnbareLemmas.{held_behind, unpacked_bare, unpacked_parts, with_ages, with_blocked, with_holds, with_pending, with_debts}
 
 abbrev one_before : {X : Type 0} → (List ℕ → X × List ℕ) → ℕ → X × List ℕ → List X × List ℕ
 one_before taken n one =
@@ -88,38 +88,38 @@ hold_read numbers hold rest =
     (numbers.plain hold.held rest)
 
 parts_in_row : (l : Labels) → parts l
-    ≡ listed number l.waits
+    ≡ listed number l.debts
     ++ (listed ages_bytes l.ages
     ++ (listed hold_bytes l.holds
     ++ last_parts l))
 parts_in_row l =
     let holds = flat_map hold_bytes l.holds in
-    append_assoc (listed number l.waits)
+    append_assoc (listed number l.debts)
     (listed ages_bytes l.ages ++ count_bytes (length l.holds)) (holds ++ last_parts l)
-    ∙ ap (λ v. listed number l.waits ++ v)
+    ∙ ap (λ v. listed number l.debts ++ v)
     (append_assoc (listed ages_bytes l.ages) (count_bytes (length l.holds)) (holds ++ last_parts l))
-    ∙ ap (λ v. listed number l.waits ++ (listed ages_bytes l.ages ++ v))
+    ∙ ap (λ v. listed number l.debts ++ (listed ages_bytes l.ages ++ v))
     (sym (append_assoc (count_bytes (length l.holds)) holds (last_parts l)))
 
 parts_read : NumbersAreReadBack → (l : Labels)
-    → with_waits (taken_list taken_number (parts l)) ≡ l
+    → with_debts (taken_list taken_number (parts l)) ≡ l
 parts_read numbers l =
     let blocked = blocked_part l in
     let pending = pending_part l ++ blocked in
     let holds = listed hold_bytes l.holds ++ pending in
     let ages = listed ages_bytes l.ages ++ holds in
     let tasks = length l.ages in
-    ap (λ v. with_waits (taken_list taken_number v)) (parts_in_row l)
-    ∙ ap with_waits (list_read number taken_number numbers numbers.plain l.waits ages)
-    ∙ ap (with_ages l.waits) (list_read ages_bytes taken_ages numbers (ages_read numbers) l.ages holds)
-    ∙ ap (with_holds l.waits l.ages)
+    ap (λ v. with_debts (taken_list taken_number v)) (parts_in_row l)
+    ∙ ap with_debts (list_read number taken_number numbers numbers.plain l.debts ages)
+    ∙ ap (with_ages l.debts) (list_read ages_bytes taken_ages numbers (ages_read numbers) l.ages holds)
+    ∙ ap (with_holds l.debts l.ages)
     (list_read hold_bytes taken_hold numbers (hold_read numbers) l.holds pending)
-    ∙ ap (with_pending l.waits l.ages l.holds)
-    (list_beside_read (length l.waits) (optional number) taken_optional numbers numbers.maybe
+    ∙ ap (with_pending l.debts l.ages l.holds)
+    (list_beside_read (length l.debts) (optional number) taken_optional numbers numbers.maybe
     l.pending blocked)
-    ∙ ap (λ (v : List ℕ). with_blocked l.waits l.ages l.holds l.pending
+    ∙ ap (λ (v : List ℕ). with_blocked l.debts l.ages l.holds l.pending
     (taken_list_beside tasks taken_number v)) (sym (append-nil blocked))
-    ∙ ap (with_blocked l.waits l.ages l.holds l.pending)
+    ∙ ap (with_blocked l.debts l.ages l.holds l.pending)
     (list_beside_read tasks number taken_number numbers numbers.plain l.blocked [])
 
 pub packed_told : NumbersAreReadBack → PackedAreTold

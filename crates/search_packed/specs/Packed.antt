@@ -45,11 +45,11 @@ abbrev pub blocked_part : Labels → List ℕ
 blocked_part l = listed_beside (length l.ages) number l.blocked
 
 abbrev pub pending_part : Labels → List ℕ
-pending_part l = listed_beside (length l.waits) (optional number) l.pending
+pending_part l = listed_beside (length l.debts) (optional number) l.pending
 
 abbrev pub first_parts : Labels → List ℕ
 first_parts l =
-    listed number l.waits
+    listed number l.debts
     ++ (listed ages_bytes l.ages
     ++ count_bytes (length l.holds))
 

@@ -51,22 +51,22 @@ taken_hold bytes =
 -- beyond the end of bytes stand zeros
 unfoldable pub unpacked : List ℕ → Labels
 unpacked bytes =
-    let waits = taken_list taken_number bytes in
-    let ages = taken_list taken_ages waits.1 in
+    let debts = taken_list taken_number bytes in
+    let ages = taken_list taken_ages debts.1 in
     let holds = taken_list taken_hold ages.1 in
-    let pending = taken_list_beside (length waits.0) taken_optional holds.1 in
+    let pending = taken_list_beside (length debts.0) taken_optional holds.1 in
     let blocked = taken_list_beside (length ages.0) taken_number pending.1 in
     record {
-      waits = waits.0;
+      debts = debts.0;
       ages = ages.0;
       pending = pending.0;
       holds = holds.0;
       blocked = blocked.0;
     }
 
--- a wait, where one is told
-abbrev pub taken_wait : Bool → List ℕ → ℕ × List ℕ
-taken_wait is_told bytes = if is_told then taken_number bytes else (0, bytes)
+-- a debt, where one is told
+abbrev pub taken_debt : Bool → List ℕ → ℕ × List ℕ
+taken_debt is_told bytes = if is_told then taken_number bytes else (0, bytes)
 
 -- ---- the law
 

@@ -4,13 +4,14 @@ use Rattle.search_labels.specs.Labels.{Labels, no_hold}
 use Rattle.search_packed.specs.Packed.{packed}
 use Rattle.search_packed.specs.Unpacked.{unpacked}
 
--- of two routines, one of which waits for 300 ticks yet and one has an interrupt that pends for 5;
+-- of two rules, by one of which 300 ticks are owed; of two routines, one of which has an interrupt
+-- that pends for 5;
 -- of two tasks, one of which has jobs of ages 7 and 130; of two resources, one of which task 1 has
 -- held for 9 ticks; no job has been blocked
 abbrev pub worked_labels : Labels
 worked_labels =
     record {
-      waits = 300 ∷ 0 ∷ [];
+      debts = 300 ∷ 0 ∷ [];
       ages = [] ∷ (130 ∷ 7 ∷ []) ∷ [];
       pending = None ∷ Some 5 ∷ [];
       holds = no_hold ∷ record { holder = Some 1; held = 9 } ∷ [];
@@ -45,7 +46,7 @@ blocked_bytes =
 -- no state has lists that don't go together, but they too are told
 abbrev pub uneven_labels : Labels
 uneven_labels =
-    record { waits = 3 ∷ []; ages = []; pending = []; holds = []; blocked = 6 ∷ [] }
+    record { debts = 3 ∷ []; ages = []; pending = []; holds = []; blocked = 6 ∷ [] }
 
 abbrev pub uneven_bytes : List ℕ
 uneven_bytes = 1 ∷ 3 ∷ 0 ∷ 0 ∷ 1 ∷ 0 ∷ 1 ∷ 1 ∷ 6 ∷ []
@@ -58,4 +59,4 @@ pub record WorkedLabels : Type 0 where
   pub uneven : packed uneven_labels ≡ uneven_bytes
   pub uneven_back : unpacked uneven_bytes ≡ uneven_labels
   -- beyond their end bytes tell nothing
-  pub none : unpacked [] ≡ record { waits = []; ages = []; pending = []; holds = []; blocked = [] }
+  pub none : unpacked [] ≡ record { debts = []; ages = []; pending = []; holds = []; blocked = [] }

@@ -5,7 +5,7 @@
 //!   what was there. No labels share their bytes with others (`packed_are_told`).
 //! - What is read needs no proof: it is packed again and compared, and `ReadLabels::of` lends
 //!   labels only where they are those that the bytes tell.
-//! - `free_routines`: exactly the routines that need not wait by them.
+//! - `free_routines`: exactly the routines that need not debt by them.
 #![tactic(auto)]
 
 mod free;

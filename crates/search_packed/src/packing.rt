@@ -93,7 +93,7 @@ fn push_ages(out: &mut Vec<u8>, labels: &Labels) -> Result<(), AllocError>
 fn push_first(out: &mut Vec<u8>, labels: &Labels) -> Result<(), AllocError>
     ensures { OnOk result (out.new.items ≡ out.old.items ++ first_parts labels.now) }
 {
-    push_numbers(out, labels.waits())?;
+    push_numbers(out, labels.debts())?;
     push_ages(out, labels)?;
     push_count(out, labels.holds().len())
 }
@@ -156,7 +156,7 @@ fn push_each_optional(out: &mut Vec<u8>, ages: &[Option<u32>]) -> Result<(), All
 fn push_pending(out: &mut Vec<u8>, labels: &Labels) -> Result<(), AllocError>
     ensures { OnOk result (out.new.items ≡ out.old.items ++ pending_part labels.now) }
 {
-    push_beside(out, labels.waits().len(), labels.pending().len())?;
+    push_beside(out, labels.debts().len(), labels.pending().len())?;
     push_each_optional(out, labels.pending())
 }
 
@@ -184,7 +184,7 @@ fn push_last(out: &mut Vec<u8>, labels: &Labels) -> Result<(), AllocError>
 fn has_none_pending(labels: &Labels) -> bool
     ensures { IsTrue result → bare (pending_part labels.now) ≡ [] }
 {
-    labels.pending().len() == labels.waits().len() && are_none(labels.pending())
+    labels.pending().len() == labels.debts().len() && are_none(labels.pending())
 }
 
 /// Whether no job has been blocked, and those of each task are told.

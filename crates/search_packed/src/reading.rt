@@ -21,11 +21,11 @@ fn count_in(bytes: &[u8]) -> (usize, &[u8]) {
     (count.min(MOST) as usize, rest)
 }
 
-fn read_waits<'b>(labels: &mut Labels, bytes: &'b [u8]) -> Result<&'b [u8], AllocError> {
+fn read_debts<'b>(labels: &mut Labels, bytes: &'b [u8]) -> Result<&'b [u8], AllocError> {
     let (count, mut rest) = count_in(bytes);
-    for _routine in 0..count {
-        let (wait, behind) = read_number(rest);
-        labels.push_wait(short(wait))?;
+    for _rule in 0..count {
+        let (debt, behind) = read_number(rest);
+        labels.push_debt(short(debt))?;
         rest = behind;
     }
     Ok(rest)
@@ -91,7 +91,7 @@ fn count_beside(others: usize, bytes: &[u8]) -> (usize, &[u8]) {
 }
 
 fn read_pending<'b>(labels: &mut Labels, bytes: &'b [u8]) -> Result<&'b [u8], AllocError> {
-    let (count, mut rest) = count_beside(labels.waits().len(), bytes);
+    let (count, mut rest) = count_beside(labels.debts().len(), bytes);
     for _routine in 0..count {
         let (age, behind) = read_optional(rest);
         labels.push_pending(age.map(short))?;
@@ -113,7 +113,7 @@ fn read_blocked(labels: &mut Labels, bytes: &[u8]) -> Result<(), AllocError> {
 /// Reads bytes into labels, in place of what they were.
 pub(crate) fn read_into(labels: &mut Labels, bytes: &[u8]) -> Result<(), AllocError> {
     labels.clear();
-    let rest = read_waits(labels, bytes)?;
+    let rest = read_debts(labels, bytes)?;
     let rest = read_ages(labels, rest)?;
     let rest = read_holds(labels, rest)?;
     let rest = read_pending(labels, rest)?;

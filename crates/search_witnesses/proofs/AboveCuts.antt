@@ -1,10 +1,11 @@
 -- What runs of the upper part by itself show of figures, runs of every system with that part show.
-use Rattle.std.proofs.Common.{◌≡◌, ℕ, zero, suc, ◌<◌, ◌+◌, ◌*◌, ◌-◌, inl, inr, List, [], ◌∷◌, sym, ◌∙◌, ap, ap₂, subst}
+use Rattle.std.proofs.Common.{◌≡◌, ℕ, zero, suc, ◌+◌, ◌*◌, ◌-◌, inl, inr, List, [], ◌∷◌, sym, ◌∙◌, ap, ap₂, subst}
 use Rattle.std.specs.Prelude.{IfSome, Some}
 use Rattle.osek_base.specs.declared.arrivals.Arrival.{Arrival}
 use Rattle.osek_base.specs.Agree.{upper_part}
 use Rattle.osek_base.specs.System.{System}
 use Rattle.osek_base.specs.Trace.{run}
+use Rattle.arrival_rules.specs.declared.rule.ArrivalRule.{ArrivalRule}
 use Rattle.law_runs.proofs.Lists.{none_some}
 use Rattle.seen_ticks.specs.declared.failures.Failure.{Failure}
 use Rattle.seen_ticks.specs.declared.observation.Observation.{Observation}
@@ -34,7 +35,7 @@ use Rattle.law_upper.proofs.Within.{has_figure}
 use Rattle.search_peaks.specs.Peaks.{told}
 use Rattle.search_witnesses.specs.AboveCuts.{HoldsOf, WhatThePartShowsHolds}
 use Rattle.search_witnesses.specs.Failing.{FailsAtEnd, last_failure}
-use Rattle.search_witnesses.specs.Listed.{IsListApart}
+use Rattle.search_witnesses.specs.Listed.{IsKeptList}
 use Rattle.search_witnesses.proofs.SeenInBoth.{jobs_same, most_same}
 
 module _ (P S : System) (p : ℕ) (law : ShowsWhatThePartShows P S p)
@@ -143,45 +144,45 @@ module _ (P S : System) (p : ℕ) (law : ShowsWhatThePartShows P S p)
 
   -- ---- all of it
 
-  list_there : (distances : List ℕ) (arrivals : List Arrival) → IsListApart P distances arrivals
-      → IsListApart S distances arrivals
-  list_there distances arrivals is = record {
+  list_there : (rules : List ArrivalRule) (arrivals : List Arrival) → IsKeptList P rules arrivals
+      → IsKeptList S rules arrivals
+  list_there rules arrivals is = record {
     list = is.list;
-    keep = law.keep distances arrivals is.keep;
+    keep = law.keep rules arrivals is.keep;
   }
 
   holds_of : HoldsOf P S p
   holds_of = record {
     shows = shows_there;
     fails_at_end = fails_there;
-    reached = λ mode distances found figure is reached.
+    reached = λ mode rules found figure is reached.
         let w = reached.witness in
         record {
           witness = w;
-          arrivals = list_there distances w.arrivals reached.is.arrivals;
+          arrivals = list_there rules w.arrivals reached.is.arrivals;
           shows =
               shows_there mode w.arrivals w.ticks figure
               (told found.peaks (figure_in_part S p figure)) is reached.is.shows;
         };
-    failing = λ mode distances peaks number fails.
+    failing = λ mode rules peaks number fails.
         let w = fails.witness in
         record {
           witness = w;
           is = record {
             failure = fails.is.failure;
             is = fails.is.is;
-            arrivals = list_there distances w.arrivals fails.is.arrivals;
+            arrivals = list_there rules w.arrivals fails.is.arrivals;
             fails = fails_there mode w.arrivals w.ticks fails.is.failure fails.is.fails;
           };
         };
-    endless = λ mode distances t e is endless. record {
-      ever = law.unending mode distances t is endless.ever;
+    endless = λ mode rules t e is endless. record {
+      ever = law.unending mode rules t is endless.ever;
       less = endless.less;
       before = endless.before;
-      arrivals = list_there distances e.arrivals endless.arrivals;
+      arrivals = list_there rules e.arrivals endless.arrivals;
       goes_on = record {
         keep = λ n.
-            law.keep distances (rounds n e.from e.until e.arrivals) (endless.goes_on.keep n);
+            law.keep rules (rounds n e.from e.until e.arrivals) (endless.goes_on.keep n);
         stands = λ n.
             law.stands mode (rounds n e.from e.until e.arrivals) e.from
             (e.until + n * (e.until - e.from)) t is (endless.goes_on.stands n);

@@ -5,6 +5,7 @@ use Rattle.std.proofs.Common.{◌∙◌, ap, inl, inr, subst, refl, sym, eqb-tru
 use Rattle.std.proofs.lemmas.Bool.{and_parts, false≢true}
 use Rattle.std.proofs.lemmas.List.Elements.{All-head, All-tail}
 use Rattle.osek_base.specs.System.{System}
+use Rattle.arrival_rules.specs.declared.rule.ArrivalRule.{ArrivalRule}
 use Rattle.view_measures.specs.declared.figure.Figure.{Figure}
 use Rattle.view_measures.specs.declared.measure.Measure.{Measure}
 use Rattle.view_measures.specs.Measures.{is_same, place_of}
@@ -73,36 +74,36 @@ one_of : {P Q : Type 0} (a b : Bool) → (a || b) ≡ true → (a ≡ true → P
 one_of true b h first second = inl (first refl)
 one_of false b h first second = inr (second h)
 
-module _ (S : System) (mode : ℕ) (distances : List ℕ) (f : Findings) where
-  shown : All (IsReached S mode distances f.bounds) f.reached.items
-      → (figure : Figure) → IsTrue (is_reached f figure) → IsShown S mode distances f.bounds figure
+module _ (S : System) (mode : ℕ) (rules : List ArrivalRule) (f : Findings) where
+  shown : All (IsReached S mode rules f.bounds) f.reached.items
+      → (figure : Figure) → IsTrue (is_reached f figure) → IsShown S mode rules f.bounds figure
   shown all figure h =
       one_of (told f.bounds.peaks figure == 0)
       (list_any (λ known. is_same known figure) f.reached.items) h (eqb-true _ _)
-      (among (IsReached S mode distances f.bounds) (λ known. is_same known figure) figure
+      (among (IsReached S mode rules f.bounds) (λ known. is_same known figure) figure
       (λ known same. same_is known figure same) f.reached.items all)
 
-  no_end_by : All (NeedNotEnd S mode distances) f.endless.items → (measure : Measure) (k : ℕ)
-      → IsTrue (is_endless_by f measure k) → HasNoEndBy S mode distances measure k
+  no_end_by : All (NeedNotEnd S mode rules) f.endless.items → (measure : Measure) (k : ℕ)
+      → IsTrue (is_endless_by f measure k) → HasNoEndBy S mode rules measure k
   no_end_by all Measure.Response k h =
-      among (NeedNotEnd S mode distances) (λ known. known == k) k
+      among (NeedNotEnd S mode rules) (λ known. known == k) k
       (λ known same. eqb-true known k same) f.endless.items all h
   no_end_by all other k h = absurd (false≢true h)
 
-  no_end : All (NeedNotEnd S mode distances) f.endless.items
-      → (figure : Figure) → IsTrue (is_endless f figure) → HasNoEnd S mode distances figure
+  no_end : All (NeedNotEnd S mode rules) f.endless.items
+      → (figure : Figure) → IsTrue (is_endless f figure) → HasNoEnd S mode rules figure
   no_end all figure h = no_end_by all figure.measure figure.number h
 
   -- what holds of all that is known holds of each
-  pub are_findings : All (IsReached S mode distances f.bounds) f.reached.items
-      → All (NeedNotEnd S mode distances) f.endless.items
-      → All (Fails S mode distances f.bounds.peaks) f.failing.items
-      → AreFindings S mode distances f
+  pub are_findings : All (IsReached S mode rules f.bounds) f.reached.items
+      → All (NeedNotEnd S mode rules) f.endless.items
+      → All (Fails S mode rules f.bounds.peaks) f.failing.items
+      → AreFindings S mode rules f
   are_findings reached endless failing =
       record {
         reached = shown reached;
         endless = no_end endless;
         failing = λ k h.
-            among (Fails S mode distances f.bounds.peaks) (λ known. known == k) k
+            among (Fails S mode rules f.bounds.peaks) (λ known. known == k) k
             (λ known same. eqb-true known k same) f.failing.items failing h;
       }

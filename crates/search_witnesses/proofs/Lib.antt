@@ -1,7 +1,10 @@
+pub mod Comings
 pub mod Ordered
+pub mod Once
+pub mod Owing
+pub mod KeptLists
+pub mod Paid
 pub mod BlockedLemmas
-pub mod Spacing
-pub mod Keeping
 pub mod Watching
 pub mod Walking
 pub mod Stood

@@ -6,7 +6,7 @@ use Rattle.std.proofs.Math.Seq.{drop-cons}
 use Rattle.osek_base.specs.declared.arrivals.Arrival.{Arrival}
 use Rattle.osek_base.specs.ArrivalList.{are_in_order}
 use Rattle.kernel.proofs.ArrivalLemmas.{IsInOrder, order_split}
-use Rattle.search_witnesses.specs.Apart.{are_apart, comes_behind, next_tick}
+use Rattle.search_witnesses.specs.Listing.{come_once, comes_behind}
 
 -- of arrivals in order, those that are left answer for all
 pub record IsLeft (test : List Arrival → Bool) (xs : List Arrival) (i : ℕ) : Type 0 where
@@ -35,12 +35,15 @@ all_late r t least (a ∷ xs) ordered low =
     both (comes_behind r t a) (list_all (comes_behind r t) xs) (late r t a high)
     (all_late r t a.tick xs o.others high)
 
-lower : (least : ℕ) (xs : List Arrival) → are_in_order least xs ≡ true → are_in_order 0 xs ≡ true
-lower least [] ordered = refl
-lower least (a ∷ xs) ordered =
-    let o : IsInOrder least a xs = order_split least a xs ordered in
-    let low : nat_le 0 a.tick ≡ true = grind arith in
-    rw (low, o.limit) o.others
+-- arrivals in order are so from an earlier tick on
+pub lower : (least first : ℕ) (xs : List Arrival) → least ≤ first → are_in_order first xs ≡ true
+    → are_in_order least xs ≡ true
+lower least first [] low ordered = refl
+lower least first (a ∷ xs) low ordered =
+    let o : IsInOrder first a xs = order_split first a xs ordered in
+    let high = o.first in
+    let is : nat_le least a.tick ≡ true = grind (arith, low, high) in
+    rw (is, o.limit) o.others
 
 -- ---- one by one
 
@@ -58,7 +61,7 @@ module _ (test : List Arrival → Bool) (xs : List Arrival) (i : ℕ) (a : Arriv
   in_order = ap (are_in_order 0) (sym first_left) ∙ left.ordered
 
   pub rest_ordered : are_in_order 0 (drop (i + 1) xs) ≡ true
-  rest_ordered = lower a.tick rest (order_split 0 a rest in_order).others
+  rest_ordered = lower 0 a.tick rest (omega arith) (order_split 0 a rest in_order).others
 
   -- where the first makes no difference, the others answer
   pub one_more : test (a ∷ drop (i + 1) xs) ≡ test (drop (i + 1) xs) → IsLeft test xs (i + 1)
@@ -89,11 +92,11 @@ pub other_routine : (r t : ℕ) (xs : List Arrival) (i : ℕ) (a : Arrival)
 other_routine r t xs i a left inside found other =
     one_more (list_all (comes_behind r t)) xs i a left inside found (rw other refl)
 
--- nor does one behind which none comes too soon
-pub apart_from_rest : (distances : List ℕ) (xs : List Arrival) (i : ℕ) (a : Arrival)
-    → IsLeft (are_apart distances) xs i → i < length xs → a ≡ get_or xs i a
-    → list_all (comes_behind a.routine (next_tick distances a)) (drop (i + 1) xs) ≡ true
-    → IsLeft (are_apart distances) xs (i + 1)
-apart_from_rest distances xs i a left inside found far =
-    one_more (are_apart distances) xs i a left inside found
-    (ap (λ b. b && are_apart distances (drop (i + 1) xs)) far)
+-- nor does one behind which none of its routine comes in its tick
+pub once_from_rest : (xs : List Arrival) (i : ℕ) (a : Arrival)
+    → IsLeft come_once xs i → i < length xs → a ≡ get_or xs i a
+    → list_all (comes_behind a.routine (a.tick + 1)) (drop (i + 1) xs) ≡ true
+    → IsLeft come_once xs (i + 1)
+once_from_rest xs i a left inside found later =
+    one_more come_once xs i a left inside found
+    (ap (λ b. b && come_once (drop (i + 1) xs)) later)

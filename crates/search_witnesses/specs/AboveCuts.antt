@@ -6,6 +6,7 @@ use Rattle.osek_base.specs.Agree.{upper_part}
 use Rattle.osek_base.specs.Proper.{IsProper}
 use Rattle.osek_base.specs.Separable.{Separable}
 use Rattle.osek_base.specs.System.{System}
+use Rattle.arrival_rules.specs.declared.rule.ArrivalRule.{ArrivalRule}
 use Rattle.seen_ticks.specs.declared.failures.Failure.{Failure}
 use Rattle.view_measures.specs.declared.figure.Figure.{Figure}
 use Rattle.law_bounds.specs.Showing.{Shows}
@@ -17,14 +18,14 @@ use Rattle.search_witnesses.specs.declared.endless.Endless.{Endless}
 use Rattle.search_witnesses.specs.declared.witness.Witness.{Witness}
 use Rattle.search_witnesses.specs.Endless.{IsEndless}
 use Rattle.search_witnesses.specs.Failing.{Fails, FailsAtEnd}
-use Rattle.search_witnesses.specs.Listed.{IsListApart}
+use Rattle.search_witnesses.specs.Listed.{IsKeptList}
 use Rattle.search_witnesses.specs.Shown.{IsReached}
 
--- some run whose interrupts are a list that keeps the distances shows so much of a figure
-pub record CanShow (S : System) (mode : ℕ) (distances : List ℕ) (figure : Figure)
+-- some run whose interrupts are a list that keeps the rules shows so much of a figure
+pub record CanShow (S : System) (mode : ℕ) (rules : List ArrivalRule) (figure : Figure)
     (value : ℕ) : Type 0 where
   pub witness : Witness
-  pub arrivals : IsListApart S distances witness.arrivals
+  pub arrivals : IsKeptList S rules witness.arrivals
   pub shows : Shows S mode witness.arrivals witness.ticks figure value
 
 -- what a run of the upper part shows, that of the system under the same arrivals shows; so what is
@@ -36,13 +37,13 @@ pub record HoldsOf (P S : System) (p : ℕ) : Type 0 where
       → Shows S mode arrivals n figure value
   pub fails_at_end : (mode : ℕ) (arrivals : List Arrival) (n : ℕ) (failure : Failure)
       → FailsAtEnd P mode arrivals n failure → FailsAtEnd S mode arrivals n failure
-  pub reached : (mode : ℕ) (distances : List ℕ) (found : Bounds) (figure : Figure)
-      → IsAbove S p figure → IsReached P mode distances found (figure_in_part S p figure)
-      → CanShow S mode distances figure (told found.peaks (figure_in_part S p figure))
-  pub failing : (mode : ℕ) (distances : List ℕ) (peaks : Peaks) (number : ℕ)
-      → Fails P mode distances peaks number → Fails S mode distances peaks number
-  pub endless : (mode : ℕ) (distances : List ℕ) (t : ℕ) (e : Endless) → IsUpperTask S p t
-      → IsEndless P mode distances t e → IsEndless S mode distances t e
+  pub reached : (mode : ℕ) (rules : List ArrivalRule) (found : Bounds) (figure : Figure)
+      → IsAbove S p figure → IsReached P mode rules found (figure_in_part S p figure)
+      → CanShow S mode rules figure (told found.peaks (figure_in_part S p figure))
+  pub failing : (mode : ℕ) (rules : List ArrivalRule) (peaks : Peaks) (number : ℕ)
+      → Fails P mode rules peaks number → Fails S mode rules peaks number
+  pub endless : (mode : ℕ) (rules : List ArrivalRule) (t : ℕ) (e : Endless) → IsUpperTask S p t
+      → IsEndless P mode rules t e → IsEndless S mode rules t e
 
 -- in the whole system, and in each that agrees with it from p upward, whatever stands below
 pub record WhatThePartShowsHolds : Type 0 where

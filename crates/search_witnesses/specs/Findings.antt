@@ -2,6 +2,7 @@
 use Rattle.std.specs.Prelude.{ℕ, ◌≡◌, ◌⊎◌, ◌==◌, ◌||◌, Bool, false, IsTrue, List, []}
 use Rattle.std.specs.List.{list_any}
 use Rattle.osek_base.specs.System.{System}
+use Rattle.arrival_rules.specs.declared.rule.ArrivalRule.{ArrivalRule}
 use Rattle.view_measures.specs.declared.figure.Figure.{Figure}
 use Rattle.view_measures.specs.declared.measure.Measure.{Measure}
 use Rattle.view_measures.specs.Measures.{is_same}
@@ -31,27 +32,28 @@ abbrev pub is_failing : Findings → ℕ → Bool
 is_failing f number = list_any (λ (known : ℕ). known == number) f.failing.items
 
 -- what is told of a figure is 0, or some run shows it
-abbrev pub IsShown : System → ℕ → List ℕ → Bounds → Figure → Type 0
-IsShown S mode distances bounds figure =
-    (told bounds.peaks figure ≡ 0) ⊎ IsReached S mode distances bounds figure
+abbrev pub IsShown : System → ℕ → List ArrivalRule → Bounds → Figure → Type 0
+IsShown S mode rules bounds figure =
+    (told bounds.peaks figure ≡ 0) ⊎ IsReached S mode rules bounds figure
 
 -- it is the time of a task that can be kept from ending for as many ticks as one likes
-abbrev pub HasNoEndBy : System → ℕ → List ℕ → Measure → ℕ → Type 0
-HasNoEndBy S mode distances Measure.Response k = NeedNotEnd S mode distances k
-HasNoEndBy S mode distances other k = ⊥
+abbrev pub HasNoEndBy : System → ℕ → List ArrivalRule → Measure → ℕ → Type 0
+HasNoEndBy S mode rules Measure.Response k = NeedNotEnd S mode rules k
+HasNoEndBy S mode rules other k = ⊥
 
-abbrev pub HasNoEnd : System → ℕ → List ℕ → Figure → Type 0
-HasNoEnd S mode distances figure = HasNoEndBy S mode distances figure.measure figure.number
+abbrev pub HasNoEnd : System → ℕ → List ArrivalRule → Figure → Type 0
+HasNoEnd S mode rules figure = HasNoEndBy S mode rules figure.measure figure.number
 
 -- what is known is so: a figure that is told above 0 is shown by some run below the cap, a time
 -- can be made as long as one likes, and some run answers a service as is told
-pub record AreFindings (S : System) (mode : ℕ) (distances : List ℕ) (f : Findings) : Type 0 where
+pub record AreFindings (S : System) (mode : ℕ) (rules : List ArrivalRule) (f : Findings)
+    : Type 0 where
   pub reached : (figure : Figure) → IsTrue (is_reached f figure)
-      → IsShown S mode distances f.bounds figure
+      → IsShown S mode rules f.bounds figure
   pub endless : (figure : Figure) → IsTrue (is_endless f figure)
-      → HasNoEnd S mode distances figure
+      → HasNoEnd S mode rules figure
   pub failing : (number : ℕ) → IsTrue (is_failing f number)
-      → Fails S mode distances f.bounds.peaks number
+      → Fails S mode rules f.bounds.peaks number
 
 -- bounds of which no run is known
 pub record AreUntried (found : Bounds) (f : Findings) : Type 0 where

@@ -1,4 +1,4 @@
-pub mod Apart
+pub mod Listing
 pub mod Listed
 pub mod Blocked
 pub mod Watched

@@ -6,15 +6,17 @@ ghost use Rattle.search_nodes.specs.Ground.{IsGround};
 ghost use Rattle.law_bounds.specs.Unending.{NeedNotEnd};
 ghost use Rattle.law_bounds.specs.Lassos.{again};
 ghost use Rattle.kernel.specs.Progress.{AreKnown};
-ghost use Rattle.law_bounds.specs.Distances.{KeepDistances};
+ghost use Rattle.arrival_rules.specs.Rules.{KeepRules};
 ghost use Rattle.search_witnesses.specs.Endless.{IsEndless};
 
 use crate::again::{again, come_before};
-use crate::apart::{are_of_routines, keep_distances};
 use crate::candidate::arrivals_of;
 use crate::going_on::{GoingOn, go_on};
+use crate::keeping::{are_of_routines, keep_rules};
 use crate::lasso::comes_twice;
+use crate::paying::are_paid;
 use crate::suspect::suspected;
+use arrival_rules::ArrivalRule;
 use law_bounds::lassos_are_endless;
 use osek_base::{Arrival, Arrivals, MAX_ARRIVALS, MAX_TICKS, ModeId, System};
 use search_needs::{Needs, needed_data};
@@ -48,19 +50,19 @@ fn before(alloc: Global, tick: u32, list: &[Arrival]) -> Result<Vec<Arrival>, Al
     Ok(early)
 }
 
-/// Whether arrivals keep distances with those from a tick on once more; at true they do. An error
+/// Whether arrivals keep rules with those from a tick on once more; at true they do. An error
 /// is want of memory.
 fn keep_again(
     alloc: Global,
     system: &System,
-    distances: &[u32],
+    rules: &[ArrivalRule],
     arrivals: &Arrivals,
     from: u32,
     until: u32,
 ) -> Result<bool, AllocError>
     requires { from ≤ until }
     ensures { IfOk result (λ keep. IsTrue keep
-        → KeepDistances system.now distances.now (again from until arrivals.now)) }
+        → KeepRules system.now rules.now (again from until arrivals.now)) }
 {
     let Some(more) = again(alloc, from, until, arrivals.list())? else {
         return Ok(false);
@@ -68,7 +70,7 @@ fn keep_again(
     let Some(more) = Arrivals::new(more) else {
         return Ok(false);
     };
-    Ok(keep_distances(system, distances, &more))
+    Ok(keep_rules(system, rules, &more))
 }
 
 /// Arrivals and two ticks, where their run can be gone on without end by what comes between.
@@ -76,7 +78,7 @@ fn tried(
     alloc: Global,
     system: &System,
     mode: ModeId,
-    distances: &[u32],
+    rules: &[ArrivalRule],
     needs: &Needs,
     arrivals: Arrivals,
     from: u32,
@@ -85,15 +87,18 @@ fn tried(
 ) -> Result<Option<Endless>, AllocError>
     requires { IsGround (record { system = system.now; needs = needs.now }) }
     ensures { IfOk result (λ found.
-        IfSome found (IsEndless system.now mode distances.now task)) }
+        IfSome found (IsEndless system.now mode rules.now task)) }
 {
     if until <= from || !come_before(until, arrivals.list()) {
         return Ok(None);
     }
-    if !keep_distances(system, distances, &arrivals) {
+    if !keep_rules(system, rules, &arrivals) {
         return Ok(None);
     }
-    if !keep_again(alloc, system, distances, &arrivals, from, until)? {
+    if !are_paid(rules, arrivals.list(), from, until) {
+        return Ok(None);
+    }
+    if !keep_again(alloc, system, rules, &arrivals, from, until)? {
         return Ok(None);
     }
     if !comes_twice(alloc, system, mode, needs, &arrivals, from, until, task)? {
@@ -112,29 +117,25 @@ fn find_in(
     alloc: Global,
     system: &System,
     mode: ModeId,
-    distances: &[u32],
+    rules: &[ArrivalRule],
     arrivals: &Arrivals,
     ticks: usize,
     task: usize,
 ) -> Result<Option<Endless>, AllocError>
     requires { AreKnown system.now arrivals.now }
     ensures { IfOk result (λ found.
-        IfSome found (IsEndless system.now mode distances.now task)) }
+        IfSome found (IsEndless system.now mode rules.now task)) }
 {
     system.shows_proper();
     let needs = needed_data(alloc, system)?;
-    let Some((from, until)) = suspected(
-        alloc, system, mode, distances, &needs, arrivals, ticks, task,
-    )?
+    let Some((from, until)) = suspected(alloc, system, mode, rules, &needs, arrivals, ticks, task)?
     else {
         return Ok(None);
     };
     let Some(early) = Arrivals::new(before(alloc, until, arrivals.list())?) else {
         return Ok(None);
     };
-    tried(
-        alloc, system, mode, distances, &needs, early, from, until, task,
-    )
+    tried(alloc, system, mode, rules, &needs, early, from, until, task)
 }
 
 /// As [`find_endless`], by the run by which a search has come to the task's greatest response,
@@ -143,19 +144,19 @@ fn find_by(
     alloc: Global,
     system: &System,
     mode: ModeId,
-    distances: &[u32],
+    rules: &[ArrivalRule],
     path: &[u64],
     how: GoingOn,
     task: usize,
 ) -> Result<Option<Endless>, AllocError>
     ensures { IfOk result (λ endless.
-        IfSome endless (IsEndless system.now mode distances.now task)) }
+        IfSome endless (IsEndless system.now mode rules.now task)) }
 {
     let count = system.routine_count();
     let mut arrivals = arrivals_of(alloc, path, count)?;
     let ticks = path.len().min(MAX_TICKS as usize) as u32;
     let until = MAX_TICKS.min(ticks.saturating_mul(LENGTHS));
-    go_on(alloc, &mut arrivals, how, distances, count, ticks, until)?;
+    go_on(alloc, &mut arrivals, how, rules, count, ticks, until)?;
     arrivals.truncate(MAX_ARRIVALS);
     let Some(arrivals) = Arrivals::new(arrivals) else {
         return Ok(None);
@@ -163,15 +164,7 @@ fn find_by(
     if !are_of_routines(system, arrivals.list()) {
         return Ok(None);
     }
-    find_in(
-        alloc,
-        system,
-        mode,
-        distances,
-        &arrivals,
-        until as usize,
-        task,
-    )
+    find_in(alloc, system, mode, rules, &arrivals, until as usize, task)
 }
 
 /// The greatest response of a task.
@@ -184,9 +177,8 @@ fn response_of(task: usize) -> Figure {
 
 /// Whether a task can be kept from ending for ever: a run, where one is found, that comes twice to
 /// one state while a job of the task stands ready or runs, and neither ends nor begins to wait. So
-/// no number of ticks bounds the task's greatest response. Tasks are numbered from 0.
-/// Its interrupts keep the distances, in ticks by routine, 1 where none is given, also where those
-/// between the two states come again.
+/// no number of ticks bounds the task's greatest response. Tasks are numbered from 0. Interrupts
+/// keep the rules, however often those between the two states come again.
 ///
 /// The run that is tried is that by which a search has come to the task's greatest response, and
 /// behind it no interrupt comes, or else each as soon as it may; so it may be that none is found.
@@ -195,20 +187,20 @@ pub fn find_endless(
     alloc: Global,
     system: &System,
     mode: ModeId,
-    distances: &[u32],
+    rules: &[ArrivalRule],
     found: &Bounds,
     task: usize,
 ) -> Result<Option<Endless>, AllocError>
     ensures { IfOk result (λ endless.
-        IfSome endless (IsEndless system.now mode distances.now task)) }
+        IfSome endless (IsEndless system.now mode rules.now task)) }
 {
     let path = found.trails.path(alloc, response_of(task))?;
-    let endless = find_by(alloc, system, mode, distances, &path, GoingOn::Never, task)?;
+    let endless = find_by(alloc, system, mode, rules, &path, GoingOn::Never, task)?;
     if endless.is_some() {
         return Ok(endless);
     }
     let how = GoingOn::AsSoonAsTheyMay;
-    find_by(alloc, system, mode, distances, &path, how, task)
+    find_by(alloc, system, mode, rules, &path, how, task)
 }
 
 /// Whether the greatest response of a task is told to reach the cap, and the task can be kept from
@@ -217,16 +209,16 @@ fn is_endless(
     alloc: Global,
     system: &System,
     mode: ModeId,
-    distances: &[u32],
+    rules: &[ArrivalRule],
     found: &Bounds,
     task: usize,
 ) -> Result<bool, AllocError>
-    ensures { IfOk result (λ endless. IsTrue endless → NeedNotEnd system.now mode distances.now task) }
+    ensures { IfOk result (λ endless. IsTrue endless → NeedNotEnd system.now mode rules.now task) }
 {
     if found.peaks.told(response_of(task)) < found.cap {
         return Ok(false);
     }
-    match find_endless(alloc, system, mode, distances, found, task)? {
+    match find_endless(alloc, system, mode, rules, found, task)? {
         Some(_run) => Ok(true),
         None => Ok(false),
     }
@@ -239,14 +231,14 @@ pub fn endless_tasks(
     alloc: Global,
     system: &System,
     mode: ModeId,
-    distances: &[u32],
+    rules: &[ArrivalRule],
     found: &Bounds,
 ) -> Result<Vec<usize>, AllocError>
-    ensures { IfOk result (λ tasks. All (NeedNotEnd system.now mode distances.now) tasks.items) }
+    ensures { IfOk result (λ tasks. All (NeedNotEnd system.now mode rules.now) tasks.items) }
 {
     let mut tasks = Vec::new(alloc);
     for task in 0..system.task_count() {
-        if is_endless(alloc, system, mode, distances, found, task)? {
+        if is_endless(alloc, system, mode, rules, found, task)? {
             tasks.push(task)?;
         }
     }

@@ -4,11 +4,12 @@ ghost use Rattle.std.specs.Prelude.{◌≡◌, IfOk, IfSome, IsTrue, Some};
 ghost use Rattle.std.specs.List.{All};
 ghost use Rattle.kernel.specs.Progress.{AreKnown};
 ghost use Rattle.search_witnesses.specs.Failing.{Fails, FailsAtEnd, IsFailing};
-ghost use Rattle.search_witnesses.specs.Listed.{IsListApart};
+ghost use Rattle.search_witnesses.specs.Listed.{IsKeptList};
 
 use crate::candidate::arrivals_of;
 use crate::running::{begin, watch};
-use crate::witness::{Witness, kept_apart};
+use crate::witness::{Witness, kept_twice};
+use arrival_rules::ArrivalRule;
 use osek_base::{Arrival, Arrivals, ModeId, System};
 use search_nodes::Bounds;
 use seen_ticks::Failure;
@@ -47,21 +48,21 @@ fn fails_at_end(
     Ok(is_same(&watched.failure, failure))
 }
 
-/// Arrivals and a number of ticks, where they keep distances and the last of these ticks of their
+/// Arrivals and a number of ticks, where they keep rules and the last of these ticks of their
 /// run has a service that is answered other than E_OK.
 fn tried(
     alloc: Global,
     system: &System,
     mode: ModeId,
-    distances: &[u32],
+    rules: &[ArrivalRule],
     arrivals: Vec<Arrival>,
     ticks: u32,
     failure: &Failure,
 ) -> Result<Option<Witness>, AllocError>
-    ensures { IfOk result (λ found. IfSome found (λ w. IsListApart system.now distances.now w.arrivals
+    ensures { IfOk result (λ found. IfSome found (λ w. IsKeptList system.now rules.now w.arrivals
         × FailsAtEnd system.now mode w.arrivals w.ticks failure.now)) }
 {
-    let Some((arrivals, copy)) = kept_apart(alloc, system, distances, arrivals)? else {
+    let Some((arrivals, copy)) = kept_twice(alloc, system, rules, arrivals)? else {
         return Ok(None);
     };
     if fails_at_end(alloc, system, mode, copy, ticks, failure)? {
@@ -72,7 +73,7 @@ fn tried(
 }
 
 /// A run in whose last tick the service of a number among those that bounds tell is answered as
-/// they tell it. Its interrupts keep the distances, in ticks by routine, 1 where none is given.
+/// they tell it. Its interrupts keep the rules.
 ///
 /// What a search has come by is tried by running it, so it may be that none is found. An error is
 /// want of memory.
@@ -80,12 +81,12 @@ pub fn find_failing(
     alloc: Global,
     system: &System,
     mode: ModeId,
-    distances: &[u32],
+    rules: &[ArrivalRule],
     found: &Bounds,
     number: usize,
 ) -> Result<Option<Witness>, AllocError>
     ensures { IfOk result (λ witness.
-        IfSome witness (IsFailing system.now mode distances.now found.now.peaks number)) }
+        IfSome witness (IsFailing system.now mode rules.now found.now.peaks number)) }
 {
     let Some(failure) = found.peaks.failures().get(number) else {
         return Ok(None);
@@ -95,7 +96,7 @@ pub fn find_failing(
         return Ok(None);
     };
     let arrivals = arrivals_of(alloc, &path, system.routine_count())?;
-    tried(alloc, system, mode, distances, arrivals, ticks, failure)
+    tried(alloc, system, mode, rules, arrivals, ticks, failure)
 }
 
 /// Whether a run is found in whose last tick the service of a number is answered so.
@@ -103,14 +104,14 @@ fn is_shown(
     alloc: Global,
     system: &System,
     mode: ModeId,
-    distances: &[u32],
+    rules: &[ArrivalRule],
     found: &Bounds,
     number: usize,
 ) -> Result<bool, AllocError>
     ensures { IfOk result (λ shown. IsTrue shown →
-        Fails system.now mode distances.now found.now.peaks number) }
+        Fails system.now mode rules.now found.now.peaks number) }
 {
-    match find_failing(alloc, system, mode, distances, found, number)? {
+    match find_failing(alloc, system, mode, rules, found, number)? {
         Some(_run) => Ok(true),
         None => Ok(false),
     }
@@ -122,16 +123,16 @@ pub fn failing_services(
     alloc: Global,
     system: &System,
     mode: ModeId,
-    distances: &[u32],
+    rules: &[ArrivalRule],
     found: &Bounds,
 ) -> Result<Vec<usize>, AllocError>
     ensures { IfOk result (λ services.
-        All (Fails system.now mode distances.now found.now.peaks) services.items) }
+        All (Fails system.now mode rules.now found.now.peaks) services.items) }
 {
     let count = found.peaks.failures().len();
     let mut services = Vec::new(alloc);
     for number in 0..count {
-        if is_shown(alloc, system, mode, distances, found, number)? {
+        if is_shown(alloc, system, mode, rules, found, number)? {
             services.push(number)?;
         }
     }

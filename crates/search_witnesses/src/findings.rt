@@ -16,6 +16,7 @@ ghost use Rattle.search_witnesses.specs.Findings.{
 use crate::endless::endless_tasks;
 use crate::failing::failing_services;
 use crate::reached::{is_below, reached_figures};
+use arrival_rules::ArrivalRule;
 use osek_base::{ModeId, System};
 use search_nodes::Bounds;
 use std::alloc::{AllocError, Global};
@@ -51,20 +52,20 @@ fn is_numbered(known: &[usize], number: usize) -> bool
 
 impl Findings {
     /// Bounds of a system in a mode, and what the runs show that are found of them. Interrupts keep
-    /// the distances, in ticks by routine, 1 where none is given. An error is want of memory.
+    /// the rules. An error is want of memory.
     pub fn of(
         alloc: Global,
         system: &System,
         mode: ModeId,
-        distances: &[u32],
+        rules: &[ArrivalRule],
         bounds: Bounds,
     ) -> Result<Self, AllocError>
         ensures bounds { IfOk result (λ found. found.bounds ≡ bounds) }
-        ensures shown { IfOk result (AreFindings system.now mode distances.now) }
+        ensures shown { IfOk result (AreFindings system.now mode rules.now) }
     {
-        let reached = reached_figures(alloc, system, mode, distances, &bounds)?;
-        let endless = endless_tasks(alloc, system, mode, distances, &bounds)?;
-        let failing = failing_services(alloc, system, mode, distances, &bounds)?;
+        let reached = reached_figures(alloc, system, mode, rules, &bounds)?;
+        let endless = endless_tasks(alloc, system, mode, rules, &bounds)?;
+        let failing = failing_services(alloc, system, mode, rules, &bounds)?;
         Ok(Findings {
             bounds,
             reached,
@@ -76,8 +77,8 @@ impl Findings {
     /// Bounds of which no run is known, such as those of a search that isn't decided.
     pub fn untried(alloc: Global, bounds: Bounds) -> Self
         ensures untried { AreUntried bounds result }
-        ensures shown { (S : System) (mode : ℕ) (distances : List ℕ)
-            → AreFindings S mode distances result }
+        ensures shown { (S : System) (mode : ℕ) (rules : List ArrivalRule)
+            → AreFindings S mode rules result }
     {
         Findings {
             bounds,

@@ -1,6 +1,8 @@
 //! OSEK/VDX OS: interrupt processing, category 2. How interrupts go on behind those of a path, of
 //! which contracts see nothing.
 
+use crate::debt::Debt;
+use arrival_rules::ArrivalRule;
 use osek_base::{Arrival, IsrId, MAX_ROUTINES};
 use std::alloc::{AllocError, Global};
 
@@ -13,41 +15,56 @@ pub(crate) enum GoingOn {
     AsSoonAsTheyMay,
 }
 
-/// How many ticks apart two arrivals of a routine are at least.
-pub(crate) fn distance_of(distances: &[u32], routine: usize) -> u32 {
-    match distances.get(routine) {
-        Some(distance) => *distance,
-        None => 1,
-    }
+/// A rule, and what interrupts owe by it.
+#[derive(Clone, Copy)]
+struct Owing {
+    rule: ArrivalRule,
+    debt: Debt,
 }
 
-/// The tick from which on interrupts of each of so many routines may come behind some arrivals.
-fn free_ticks(
+/// What is owed by a rule behind some arrivals in order.
+fn debt_behind(rule: &ArrivalRule, arrivals: &[Arrival]) -> Debt {
+    let mut debt = Debt::none();
+    for arrival in arrivals {
+        debt.admit(rule, arrival);
+    }
+    debt
+}
+
+/// The same by each rule.
+fn owed_behind(
     alloc: Global,
+    rules: &[ArrivalRule],
     arrivals: &[Arrival],
-    distances: &[u32],
-    count: usize,
-) -> Result<Vec<u32>, AllocError> {
-    let mut free = Vec::new(alloc);
-    for routine in 0..count {
-        let mut tick = 0u32;
-        for arrival in arrivals {
-            if arrival.routine.number() as usize == routine {
-                tick = arrival.tick.saturating_add(distance_of(distances, routine));
-            }
-        }
-        free.push(tick)?;
+) -> Result<Vec<Owing>, AllocError> {
+    let mut owed = Vec::with_capacity(alloc, rules.len())?;
+    for rule in rules {
+        let debt = debt_behind(rule, arrivals);
+        owed.push(Owing { rule: *rule, debt })?;
     }
-    Ok(free)
+    Ok(owed)
 }
 
-/// Adds interrupts from a tick on and before another, of so many routines that there are. An error
-/// is want of memory.
+/// Whether an arrival may come by each rule; where it may, it has come.
+fn admit(owed: &mut [Owing], arrival: &Arrival) -> bool {
+    for owing in owed.iter() {
+        if !owing.debt.may_admit(&owing.rule, arrival) {
+            return false;
+        }
+    }
+    for owing in owed.iter_mut() {
+        owing.debt.admit(&owing.rule, arrival);
+    }
+    true
+}
+
+/// Adds interrupts from a tick on and before another, of so many routines that there are, behind
+/// arrivals before it. An error is want of memory.
 pub(crate) fn go_on(
     alloc: Global,
     arrivals: &mut Vec<Arrival>,
     how: GoingOn,
-    distances: &[u32],
+    rules: &[ArrivalRule],
     count: usize,
     from: u32,
     until: u32,
@@ -55,13 +72,13 @@ pub(crate) fn go_on(
     if how == GoingOn::Never {
         return Ok(());
     }
-    let mut free = free_ticks(alloc, arrivals, distances, count)?;
+    let mut owed = owed_behind(alloc, rules, arrivals)?;
     for tick in from..until {
-        for (number, next) in free.iter_mut().enumerate() {
-            if *next <= tick && number < MAX_ROUTINES {
-                let routine = IsrId::new(number as u8);
-                arrivals.push(Arrival { tick, routine })?;
-                *next = tick.saturating_add(distance_of(distances, number));
+        for number in 0..count.min(MAX_ROUTINES) {
+            let routine = IsrId::new(number as u8);
+            let arrival = Arrival { tick, routine };
+            if admit(&mut owed, &arrival) {
+                arrivals.push(arrival)?;
             }
         }
     }

@@ -4,7 +4,7 @@
 //! promised.
 //!
 //! - `find_witness`: where it answers arrivals and a number of ticks, the arrivals keep the
-//!   distances, and after so many ticks the run's figure (as defined in `view_figures`) is
+//!   rules, and after so many ticks the run's figure (as defined in `view_figures`) is
 //!   exactly what is told, which is the cap where nothing is promised. The figure is the longest
 //!   time of a task or a routine, or the age of what hasn't ended or started, the longest hold,
 //!   the most ticks for which a job was blocked, or the most blockers of one; of what is lost,
@@ -12,13 +12,13 @@
 //! - `reached_figures`: each figure that it answers is told below the cap, and there is such a
 //!   run of it.
 //! - `find_failing`: where it answers arrivals and a number of ticks, the arrivals keep the
-//!   distances, and the last of these ticks of the run has the service of a number among those
+//!   rules, and the last of these ticks of the run has the service of a number among those
 //!   that are told, answered as it is told. `failing_services`: of each service that it answers
 //!   there is such a run.
 //! - `find_endless`: where it answers arrivals and two ticks, the task can be kept from ending
 //!   for as many ticks as one likes, by a run that begins with these arrivals. They keep the
-//!   distances, also where those between the two ticks come once more, and a job of the task is
-//!   there in each tick between. `endless_tasks`: each task that it answers can be kept so.
+//!   rules, however often those between the two ticks come again, and a job of the task is there
+//!   in each tick between. `endless_tasks`: each task that it answers can be kept so.
 //! - `Findings`: bounds, and what of them these three answer. Each figure that is known as reached
 //!   is reached by some run, or is 0; each task that is known as endless can be kept from ending,
 //!   and some run answers each service that is known to fail as is told (`AreFindings`). Of bounds
@@ -30,15 +30,17 @@
 
 mod above_cuts;
 mod again;
-mod apart;
 mod blocked;
 mod came;
 mod candidate;
+mod debt;
 mod endless;
 mod failing;
 mod findings;
 mod going_on;
+mod keeping;
 mod lasso;
+mod paying;
 mod reached;
 mod running;
 mod standing;

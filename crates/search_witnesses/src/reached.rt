@@ -6,6 +6,7 @@ ghost use Rattle.search_peaks.specs.Peaks.{is_below};
 ghost use Rattle.search_witnesses.specs.Shown.{IsReached};
 
 use crate::witness::find_witness;
+use arrival_rules::ArrivalRule;
 use osek_base::{ModeId, System};
 use search_nodes::Bounds;
 use std::alloc::{AllocError, Global};
@@ -30,40 +31,40 @@ fn is_reached(
     alloc: Global,
     system: &System,
     mode: ModeId,
-    distances: &[u32],
+    rules: &[ArrivalRule],
     found: &Bounds,
     figure: Figure,
 ) -> Result<bool, AllocError>
     ensures { IfOk result (λ reached. IsTrue reached →
-        IsReached system.now mode distances.now found.now figure) }
+        IsReached system.now mode rules.now found.now figure) }
 {
     if !is_below(found, figure) {
         return Ok(false);
     }
-    match find_witness(alloc, system, mode, distances, found, figure)? {
+    match find_witness(alloc, system, mode, rules, found, figure)? {
         Some(_run) => Ok(true),
         None => Ok(false),
     }
 }
 
 /// The figures of a system that are told below the cap and that a run shows as they are told, where
-/// one is found by which a search has come to them. The interrupts of that run keep the distances,
-/// in ticks by routine, 1 where none is given. An error is want of memory.
+/// one is found by which a search has come to them. The interrupts of that run keep the rules. An
+/// error is want of memory.
 pub fn reached_figures(
     alloc: Global,
     system: &System,
     mode: ModeId,
-    distances: &[u32],
+    rules: &[ArrivalRule],
     found: &Bounds,
 ) -> Result<Vec<Figure>, AllocError>
     ensures { IfOk result (λ figures.
-        All (IsReached system.now mode distances.now found.now) figures.items) }
+        All (IsReached system.now mode rules.now found.now) figures.items) }
 {
     let all = figures_of(alloc, system)?;
     let mut reached = Vec::new(alloc);
     for place in 0..all.len() {
         let figure = all[place];
-        if is_reached(alloc, system, mode, distances, found, figure)? {
+        if is_reached(alloc, system, mode, rules, found, figure)? {
             reached.push(figure)?;
         }
     }

@@ -3,8 +3,10 @@
 
 ghost use Rattle.kernel.specs.Progress.{AreKnown};
 
-use crate::going_on::distance_of;
+use crate::debt::Debt;
+use crate::paying::are_paid;
 use crate::walk::Walk;
+use arrival_rules::ArrivalRule;
 use osek_base::{Arrival, Arrivals, ModeId, System};
 use search_needs::Needs;
 use std::alloc::{AllocError, Global};
@@ -16,55 +18,47 @@ struct Mark {
     key: Vec<u8>,
 }
 
-/// Whether what arrives of a routine from a tick on and before another can come once more behind
-/// that one: the first a distance behind the last.
-fn may_come(arrivals: &[Arrival], from: u32, until: u32, routine: usize, distance: u32) -> bool {
-    let mut first = None;
-    let mut last = 0u32;
+/// Whether by a rule all that arrives from a tick on and before another may come once more behind
+/// that one.
+fn may_come(rule: &ArrivalRule, arrivals: &[Arrival], from: u32, until: u32) -> bool {
+    let mut debt = Debt::none();
     for arrival in arrivals {
-        let inside = from <= arrival.tick && arrival.tick < until;
-        if inside && arrival.routine.number() as usize == routine {
-            first = first.or(Some(arrival.tick));
-            last = arrival.tick;
+        if arrival.tick < until {
+            debt.admit(rule, arrival);
         }
     }
-    match first {
-        Some(first) => {
-            last.saturating_add(distance) <= first.saturating_add(until.saturating_sub(from))
-        }
-        None => true,
-    }
-}
-
-/// Whether all that arrives between two ticks can come once more behind the second.
-fn may_come_again(
-    system: &System,
-    distances: &[u32],
-    arrivals: &[Arrival],
-    from: u32,
-    until: u32,
-) -> bool {
-    for routine in 0..system.routine_count() {
-        let distance = distance_of(distances, routine);
-        if !may_come(arrivals, from, until, routine, distance) {
-            return false;
+    for arrival in arrivals {
+        if from <= arrival.tick && arrival.tick < until {
+            let again = Arrival {
+                tick: arrival.tick.saturating_add(until.saturating_sub(from)),
+                routine: arrival.routine,
+            };
+            if !debt.admit(rule, &again) {
+                return false;
+            }
         }
     }
     true
 }
 
-/// The tick of the first mark with a key from which on all can come once more.
+/// Whether all that arrives between two ticks may come again and again behind the second.
+fn may_come_again(rules: &[ArrivalRule], arrivals: &[Arrival], from: u32, until: u32) -> bool {
+    from < until
+        && are_paid(rules, arrivals, from, until)
+        && rules
+            .iter()
+            .all(|rule| may_come(rule, arrivals, from, until))
+}
+
+/// The tick of the first mark with a key from which on all may come again.
 fn earlier(
-    system: &System,
-    distances: &[u32],
+    rules: &[ArrivalRule],
     arrivals: &[Arrival],
     marks: &[Mark],
     mark: &Mark,
 ) -> Option<u32> {
     for earlier in marks {
-        if earlier.key == mark.key
-            && may_come_again(system, distances, arrivals, earlier.tick, mark.tick)
-        {
+        if earlier.key == mark.key && may_come_again(rules, arrivals, earlier.tick, mark.tick) {
             return Some(earlier.tick);
         }
     }
@@ -72,14 +66,14 @@ fn earlier(
 }
 
 /// Two ticks before which a run that is walked for so many ticks comes to one state, while a job of
-/// a task stands, and between which all arrivals can come once more. Of the states since a job
-/// stands those are compared with that came behind 0, 1, 2, 4, 8 and so on ticks: what comes in
-/// turns comes twice behind one of them. An error is want of memory.
+/// a task stands, and between which all arrivals may come again. Of the states since a job stands
+/// those are compared with that came behind 0, 1, 2, 4, 8 and so on ticks: what comes in turns
+/// comes twice behind one of them. An error is want of memory.
 pub(crate) fn suspected(
     alloc: Global,
     system: &System,
     mode: ModeId,
-    distances: &[u32],
+    rules: &[ArrivalRule],
     needs: &Needs,
     arrivals: &Arrivals,
     ticks: usize,
@@ -95,7 +89,7 @@ pub(crate) fn suspected(
             tick: walk.ticks(),
             key: walk.key(alloc, needs)?,
         };
-        if let Some(from) = earlier(system, distances, arrivals.list(), &marks, &mark) {
+        if let Some(from) = earlier(rules, arrivals.list(), &marks, &mark) {
             return Ok(Some((from, mark.tick)));
         }
         if stood == 0 || stood.is_power_of_two() {

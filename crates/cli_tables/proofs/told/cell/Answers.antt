@@ -5,6 +5,6 @@ use Rattle.cli_tables.proofs.told.cell.Goals as goal
 
 pub returns-clause-promises : goal.returns-clause-promises
 returns-clause-promises c =
-    λ S mode distances are.
-    subst (Promises S mode distances c.args.found.now.bounds c.args.figure)
-    (sym c.told_cell.ensures) (promised S mode distances c.args.found.now are c.args.figure)
+    λ S mode rules are.
+    subst (Promises S mode rules c.args.found.now.bounds c.args.figure)
+    (sym c.told_cell.ensures) (promised S mode rules c.args.found.now are c.args.figure)

@@ -1,4 +1,4 @@
-use Rattle.law_windows.proofs.Analysis.{arrivals_are_few}
+use Rattle.law_windows.proofs.Arrivals.{arrivals_are_few}
 use Rattle.law_windows.proofs.laws.arrivals_are_few.Goals as goal
 
 pub returns : goal.returns

@@ -18,7 +18,7 @@ pub returns-clause-searched : goal.returns-clause-searched
 returns-clause-searched g c =
     let made = c.in_ok-explorer.ensures in
     all_are_searched (record { system = c.args.system.now; needs = c.in_ok-needs.needs })
-    c.args.mode c.args.distances.now c.args.extent
+    c.args.mode c.args.rules.now c.args.extent
     c.in_ok-explorer.explorer c.search-searched.new.steps c.search-searched.result
     c.into_bounds.result
     (record {
@@ -31,7 +31,7 @@ returns-clause-searched g c =
       system = made.system i;
       mode = made.mode i;
       need = need_of (made.needs i);
-      distances = made.distances i;
+      rules = made.rules i;
       cap = made.cap i;
     })
     c.search-searched.ensures.outcome c.into_bounds.ensures.outcome c.into_bounds.ensures.peaks

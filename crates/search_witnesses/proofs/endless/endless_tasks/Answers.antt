@@ -7,7 +7,7 @@ use Rattle.search_witnesses.proofs.endless.endless_tasks.Goals.{then-branch+in_o
 
 pub loop-task-preserved : goal.loop-task-preserved
 loop-task-preserved c =
-    let holds = NeedNotEnd c.args.system.now c.args.mode c.args.distances.now in
+    let holds = NeedNotEnd c.args.system.now c.args.mode c.args.rules.now in
     elim c.if-branch.branch [
       | then-branch+in_ok-push w ↦
           rw w.tasks-is

@@ -8,7 +8,7 @@ use Rattle.search_witnesses.proofs.failing.failing_services.Goals.{then-branch+i
 pub loop-number-preserved : goal.loop-number-preserved
 loop-number-preserved c =
     let holds =
-    Fails c.args.system.now c.args.mode c.args.distances.now c.args.found.now.peaks in
+    Fails c.args.system.now c.args.mode c.args.rules.now c.args.found.now.peaks in
     elim c.if-branch.branch [
       | then-branch+in_ok-push w ↦
           rw w.services-is

@@ -7,7 +7,7 @@ use Rattle.search_witnesses.proofs.reached.reached_figures.Goals.{then-branch+in
 
 pub loop-place-preserved : goal.loop-place-preserved
 loop-place-preserved c =
-    let holds = IsReached c.args.system.now c.args.mode c.args.distances.now c.args.found.now in
+    let holds = IsReached c.args.system.now c.args.mode c.args.rules.now c.args.found.now in
     elim c.if-branch.branch [
       | then-branch+in_ok-push w ↦
           rw w.reached-is

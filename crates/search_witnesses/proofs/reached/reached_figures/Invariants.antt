@@ -4,4 +4,4 @@ use Rattle.search_witnesses.proofs.reached.reached_figures.Given as goal
 
 abbrev pub invariant-loop-place : goal.invariant-loop-place
 invariant-loop-place l =
-    All (IsReached l.system l.mode l.distances l.found) l.reached.items
+    All (IsReached l.system l.mode l.rules l.found) l.reached.items

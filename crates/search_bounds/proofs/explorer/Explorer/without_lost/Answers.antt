@@ -3,7 +3,7 @@ use Rattle.kernel.specs.Machine.{picture}
 use Rattle.view_measures.specs.declared.measure.Measure.{Measure}
 use Rattle.view_measures.specs.Measures.{figure}
 use Rattle.search_peaks.specs.Peaks.{told}
-use Rattle.law_bounds.specs.Nodes.{AreNoted, May, Node, rules_of}
+use Rattle.law_bounds.specs.Nodes.{AreNoted, May, Node, search_rules}
 use Rattle.search.specs.Rules.{Repeats}
 use Rattle.search_bounds.specs.Exploring.{Explorer, explorer_of, setting_of}
 use Rattle.search_bounds.proofs.Exploring.{is_in_of, stays_noted}
@@ -38,7 +38,7 @@ returns-clause-repeats g c =
     (omega (arith, low)) c.pending_routines-pending.ensures c.without-fewer.ensures.less
     c.without-fewer.ensures.others in
     subst (λ (h : Explorer).
-    Repeats (rules_of (setting_of h)) (AreNoted (setting_of e) peaks) x set fewer)
+    Repeats (search_rules (setting_of h)) (AreNoted (setting_of e) peaks) x set fewer)
     c.self.view_is
     (repeats_it e x set fewer m c.one_state_tells.ensures c.lost_change_nothing.ensures
     c.self.invariant.ground may is others c.if-set-fewer.false peaks

@@ -27,7 +27,7 @@ returns-clause-first g c =
     subst (λ (f : Explorer). IsFirst (setting_of f) y) c.self.view_is
     (is_first e y m c.boot_again.ensures.system c.in_ok-boot_again.ensures.picture made over
     (labels ∙ c.in_ok-labels.ensures
-    ∙ first_is e.ground.system c.task_count-tasks.result c.routine_count-routines.result
+    ∙ first_is (setting_of e) c.task_count-tasks.result c.routine_count-routines.result
     c.held_count.result c.task_count-tasks.ensures.value c.routine_count-routines.ensures.value
     c.held_count.ensures)))
     c.node_of-node.ensures.key c.node_of-node.ensures.over c.node_of-node.ensures.labels

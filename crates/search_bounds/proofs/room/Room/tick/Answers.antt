@@ -47,6 +47,6 @@ returns-clause-made c =
     (is_behind s set (picture m) n w ticked l c.become_next.new.self
     (c.tick_from.ensures.system ∙ c.requires.from)
     (c.in_ok-become_next.ensures ∙ ap (λ (o : Observation).
-    next_labels (lower_executes (levels_of s.system) o.executor) s.cap s.distances set (seen_of o)
+    next_labels (lower_executes (levels_of s.system) o.executor) s.cap s.rules set (seen_of o)
     l) c.seen-seen.ensures))
     c.node_of.ensures.key c.node_of.ensures.over c.node_of.ensures.labels

@@ -17,11 +17,11 @@ returns c =
     (c.deref.ensures.value ∙ ap (λ (v : Labels). v.holds) mine)
     (c.deref-else-not-is_of_as_many.ensures.value ∙ ap (λ (v : Labels). v.holds) others)
     (c.if-not-are_joinable.ensures refl))
-    (list_joined min 0 c.self.inside.waits
-    c.deref_mut.result.now c.deref-2.result.now c.join_waits.new.waits l.waits m.waits
-    (c.deref_mut.ensures.value ∙ ap (λ (v : Labels). v.waits) mine)
-    (c.deref-2.ensures.value ∙ ap (λ (v : Labels). v.waits) others)
-    c.deref_mut.ensures.len c.join_waits.ensures.count c.join_waits.ensures.each)
+    (list_joined min 0 c.self.inside.debts
+    c.deref_mut.result.now c.deref-2.result.now c.join_debts.new.debts l.debts m.debts
+    (c.deref_mut.ensures.value ∙ ap (λ (v : Labels). v.debts) mine)
+    (c.deref-2.ensures.value ∙ ap (λ (v : Labels). v.debts) others)
+    c.deref_mut.ensures.len c.join_debts.ensures.count c.join_debts.ensures.each)
     (lists_joined c.self.inside.ages c.other.inside.ages c.join.new.self l.ages m.ages
     (ap (λ (v : Labels). v.ages) mine) (ap (λ (v : Labels). v.ages) others)
     c.in_ok-join.ensures.count c.in_ok-join.ensures.each)
