@@ -1,0 +1,25 @@
+-- They come to that.
+use Rattle.std.proofs.Common.{refl}
+use Rattle.law_nodes.specs.Worked.{WorkedNodes}
+
+pub worked : WorkedNodes
+worked = record {
+  counting_steps = refl;
+  counting_closed = refl;
+  open_end = refl;
+  open_start = refl;
+  getting = refl;
+  releasing = refl;
+  refused = refl;
+  awaiting = refl;
+  at_rest = refl;
+  setting = refl;
+  waiting_closed = refl;
+  disabled = refl;
+  counting_pays = refl;
+  too_little = refl;
+  one_too_cheap = refl;
+  waiting_pays = refl;
+  event_is_free = refl;
+  interrupt_too_cheap = refl;
+}

@@ -1,0 +1,5 @@
+use Rattle.law_nodes.proofs.Paid.{prices_bound_responses}
+use Rattle.law_nodes.proofs.laws.prices_bound_responses.Goals as goal
+
+pub returns : goal.returns
+returns c = prices_bound_responses

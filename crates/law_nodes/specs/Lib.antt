@@ -1,0 +1,10 @@
+pub mod Values
+pub mod Nodes
+pub mod Services
+pub mod Steps
+pub mod Closed
+pub mod Laws
+pub mod Prices
+pub mod Setting
+pub mod Paid
+pub mod Worked

@@ -1,0 +1,104 @@
+-- Whether costs of nodes pay for all that comes, and what they bound.
+use Rattle.std.specs.Prelude.{ℕ, ◌≡◌, Bool, true, not, ◌&&◌, ◌||◌, nat_le, nat_lt, max, List, map, is_some, length}
+use Rattle.std.specs.List.{filter, list_all, sum_by}
+use Rattle.osek_base.specs.declared.ids.Owner.{Owner}
+use Rattle.osek_base.specs.declared.ids.ResId.{ResId}
+use Rattle.osek_base.specs.Activation.{new_job}
+use Rattle.osek_base.specs.Ceiling.{ceiling}
+use Rattle.osek_base.specs.Lists.{below, greatest}
+use Rattle.osek_base.specs.Proper.{IsProper}
+use Rattle.osek_base.specs.System.{System, alarm, priority_of}
+use Rattle.osek_base.specs.Tick.{action_call}
+use Rattle.osek_base.specs.Trace.{starting_tasks}
+use Rattle.arrival_rules.specs.declared.rule.ArrivalRule.{ArrivalRule}
+use Rattle.law_windows.specs.Analysis.{AreAlwaysEnough, IsBoundOf}
+use Rattle.law_windows.specs.Expiring.{most_expiries}
+use Rattle.law_windows.specs.Routines.{begun}
+use Rattle.law_costs.specs.Laws.{Pay}
+use Rattle.law_costs.specs.Left.{Weights, is_off, on}
+use Rattle.law_costs.specs.Paying.{is_upper, start_of}
+use Rattle.law_nodes.specs.Closed.{is_closed, known_by}
+use Rattle.law_nodes.specs.Nodes.{Node, is_at, of_job, of_routine, woken_node}
+use Rattle.law_nodes.specs.Setting.{are_set_slowly}
+use Rattle.law_nodes.specs.Prices.{Priced, highest, is_paid, nodes_pay, priced_by, table_of}
+
+-- ---- sections that a dispatch begins
+
+-- the dynamic priority of a job at a node at least: as if its internal resource isn't taken
+abbrev pub lowest : System → Owner → List ResId → ℕ
+lowest S (Owner.Task t) held = max (priority_of S t) (greatest (map (ceiling S) held))
+lowest S (Owner.Routine i) held = 0
+
+-- whether a dispatch may raise a job at a node to a level
+abbrev pub may_rise : System → ℕ → Node → Bool
+may_rise S p n =
+    not (is_some n.waits_for) && not (is_off n.switch) && nat_lt (lowest S n.owner n.held) p
+    && nat_le p (highest S n.owner n.held)
+
+-- ---- what begins at a node
+
+-- a job of the level that is activated, and a routine whose interrupt arrives
+abbrev pub pays_fresh : Owner → System → ℕ → Weights → Priced → Bool
+pays_fresh (Owner.Task t) S p c q =
+    not (nat_le p (priority_of S t)
+    && is_at q.node (of_job on (new_job (record { task = t; serial = 0 }))))
+    || nat_le q.cost (c.of_task t)
+pays_fresh (Owner.Routine i) S p c q =
+    not (is_at q.node (of_routine on (begun i))) || nat_le q.cost (c.costs.of_arrival i)
+
+-- a job of the level whose wait ends
+abbrev pub pays_woken : Owner → System → ℕ → (ℕ → ℕ) → List Priced → Priced → Bool
+pays_woken (Owner.Task t) S p events prices q =
+    not (is_some q.node.waits_for && nat_le p (priority_of S t))
+    || is_paid prices 0 (events t) (woken_node q.node)
+pays_woken (Owner.Routine i) S p events prices q = true
+
+-- a node costs something, and is paid by what begins there
+abbrev pub is_covered_by : System → ℕ → Weights → (ℕ → ℕ) → List Priced → Priced → Bool
+is_covered_by S p c events prices q =
+    nat_le 1 q.cost && (not (may_rise S p q.node) || nat_le q.cost c.of_section)
+    && pays_fresh q.node.owner S p c q && pays_woken q.node.owner S p events prices q
+
+-- ---- what comes
+
+abbrev pub alarms_pay : System → Weights → Bool
+alarms_pay S c =
+    list_all (λ a. nat_le (start_of c (action_call (alarm S a).action)) (c.costs.of_expiry a))
+    (below (length S.alarms))
+
+abbrev pub boot_pays : System → ℕ → ℕ → Weights → Bool
+boot_pays S mode p c =
+    nat_le (sum_by c.of_task (filter (is_upper S p) (starting_tasks S mode))) c.costs.at_boot
+    && nat_le c.of_section c.costs.at_boot && nat_le c.of_section c.costs.at_begin
+
+-- ---- all of it
+
+-- costs of which an event has one for each task, whichever events are set
+abbrev pub with_events : Weights → (ℕ → ℕ) → Weights
+with_events c events = record c { of_event = λ t m. events t }
+
+abbrev pub prices_pay : System → ℕ → ℕ → Weights → (ℕ → ℕ) → List Priced → Bool
+prices_pay S mode p c events prices =
+    nodes_pay S p (with_events c events) prices
+    && list_all (is_covered_by S p (with_events c events) events prices) prices
+    && alarms_pay S (with_events c events) && boot_pays S mode p (with_events c events)
+
+-- ---- the laws
+
+-- prices that pay make costs that do
+abbrev pub PricesPay : Type 0
+PricesPay =
+    (S : System) (mode p : ℕ) (c : Weights) (events : ℕ → ℕ) (prices : List Priced)
+    → prices_pay S mode p c events prices ≡ true
+    → Pay S mode p (priced_by (with_events c events) prices) (known_by (table_of prices))
+
+-- so where a table is closed and its prices pay, as many ticks as are enough for all that can come
+-- bound each response; alarms are set by so many counts at least
+abbrev pub PricesBoundResponses : Type 0
+PricesBoundResponses =
+    (S : System) (mode : ℕ) (rules : List ArrivalRule) (p : ℕ) (c : Weights) (events : ℕ → ℕ)
+    (prices : List Priced) (least : ℕ → ℕ) (most : ℕ) → IsProper S
+    → is_closed S (table_of prices) ≡ true → prices_pay S mode p c events prices ≡ true
+    → are_set_slowly S mode c.costs (table_of prices) least ≡ true
+    → AreAlwaysEnough S rules c.costs (most_expiries S mode least most) most
+    → IsBoundOf S mode rules p most

@@ -1,0 +1,118 @@
+-- Costs of nodes, and whether they pay for the instructions of who is at them.
+use Rattle.std.specs.Prelude.{ℕ, ◌+◌, ◌≡◌, min, max, Bool, true, not, ◌&&◌, ◌||◌, nat_le, if◌then◌else◌, List, [], ◌∷◌, map, Option, Some, None, is_some, unwrap_or}
+use Rattle.std.specs.List.{list_all, list_any}
+use Rattle.osek_base.specs.declared.ids.Owner.{Owner}
+use Rattle.osek_base.specs.declared.ids.ResId.{ResId}
+use Rattle.osek_base.specs.declared.instr.Instr.{Instr}
+use Rattle.osek_base.specs.Ceiling.{ceiling, internal_ceiling}
+use Rattle.osek_base.specs.Lists.{greatest}
+use Rattle.osek_base.specs.Service.{answer}
+use Rattle.osek_base.specs.System.{System, instruction_at, priority_of}
+use Rattle.law_costs.specs.Jobs.{PayForJobs, left_of_section}
+use Rattle.law_costs.specs.Left.{Weights, is_off}
+use Rattle.law_costs.specs.Routines.{PayForRoutines, started_where}
+use Rattle.law_nodes.specs.Closed.{known_by}
+use Rattle.law_nodes.specs.Nodes.{Node, Standing, Table, covers, is_at, of_job, of_routine}
+use Rattle.law_nodes.specs.Services.{answers, replied}
+use Rattle.law_nodes.specs.Steps.{steps_by}
+
+-- ---- costs
+
+pub record Priced : Type 0 where
+  pub node : Node
+  pub cost : ℕ
+
+abbrev pub table_of : List Priced → Table
+table_of prices = map (λ q. q.node) prices
+
+-- the least cost of those nodes at which who executes is, if there is one
+abbrev pub lesser : ℕ → Option ℕ → ℕ
+lesser cost None = cost
+lesser cost (Some other) = min cost other
+
+abbrev pub least : List Priced → Standing → Option ℕ
+least [] x = None
+least (q ∷ prices) x =
+    if is_at q.node x then Some (lesser q.cost (least prices x)) else least prices x
+
+-- .. and 0 where there is none
+abbrev pub cost_of : List Priced → Standing → ℕ
+cost_of prices x = unwrap_or (least prices x) 0
+
+-- costs by these prices; all else is as given
+abbrev pub priced_by : Weights → List Priced → Weights
+priced_by c prices =
+    record c {
+      of_active = λ w a. cost_of prices (of_routine w a);
+      of_job = λ w j. cost_of prices (of_job w j);
+    }
+
+-- ---- whether a job counts that is at a node
+
+-- its dynamic priority at most: as if its internal resource is taken
+abbrev pub highest : System → Owner → List ResId → ℕ
+highest S (Owner.Task t) held =
+    max (priority_of S t)
+    (max (greatest (map (ceiling S) held)) (unwrap_or (internal_ceiling S t) 0))
+highest S (Owner.Routine i) held = 0
+
+abbrev pub may_count : System → ℕ → Node → Bool
+may_count S p n =
+    not (is_some n.waits_for) && (is_off n.switch || nat_le p (highest S n.owner n.held))
+
+-- ---- what an instruction leaves and starts
+
+-- whether a node covers that one whose cost and what is added are no more than the most
+abbrev pub is_paid : List Priced → ℕ → ℕ → Node → Bool
+is_paid prices more most m =
+    list_any (λ q. covers q.node m && nat_le (q.cost + more) most) prices
+
+-- .. each step of a job that may count; and with interrupts off, the section of a dispatch, which
+-- is left where the job doesn't count behind it
+abbrev pub job_fits : System → ℕ → Weights → List Priced → Node → ℕ → ℕ → Table → Bool
+job_fits S p c prices n more most next =
+    list_all (λ m. not (may_count S p m) || is_paid prices more most m) next
+    && nat_le (left_of_section c n.switch + more) most
+
+-- .. each step of a routine
+abbrev pub routine_fits : List Priced → ℕ → ℕ → Table → Bool
+routine_fits prices more most next =
+    list_all (is_paid prices more most) next && nat_le more most
+
+-- whether the cost of a node pays for steps and what is started with them: one less is left at
+-- least; of a lower job no more than may be where a window begins
+abbrev pub pays_by : Owner → System → ℕ → Weights → List Priced → Priced → Table → ℕ → Bool
+pays_by (Owner.Task t) S p c prices q next start =
+    (not (may_count S p q.node) || job_fits S p c prices q.node (start + 1) q.cost next)
+    && (nat_le p (priority_of S t) || job_fits S p c prices q.node start c.costs.at_begin next)
+pays_by (Owner.Routine i) S p c prices q next start = routine_fits prices (start + 1) q.cost next
+
+-- whether a test passes of what may become of who is at a node, and what is started with that: by
+-- each answer that a service may give
+abbrev pub all_outcomes : System → Weights → (Table → ℕ → Bool) → Instr → Node → Bool
+all_outcomes S c pays (Instr.Service call) n =
+    list_all (λ refusal. pays (replied S n call refusal) (started_where c (answer refusal) call))
+    (answers S n call)
+all_outcomes S c pays what n = pays (steps_by S what n) 0
+
+-- whether the cost of a node pays for the instruction there. Who waits executes none
+abbrev pub node_pays : System → ℕ → Weights → List Priced → Priced → Bool
+node_pays S p c prices q =
+    is_some q.node.waits_for
+    || all_outcomes S c (pays_by q.node.owner S p c prices q)
+    (instruction_at S q.node.owner q.node.place) q.node
+
+abbrev pub nodes_pay : System → ℕ → Weights → List Priced → Bool
+nodes_pay S p c prices = list_all (node_pays S p c prices) prices
+
+-- ---- the law
+
+-- where each node's cost pays, such costs pay for all whom the table tells
+pub record PayForNodes (S : System) (p : ℕ) (c : Weights) (prices : List Priced) : Type 0 where
+  pub jobs : PayForJobs S p (priced_by c prices) (known_by (table_of prices))
+  pub routines : PayForRoutines S (priced_by c prices) (known_by (table_of prices))
+
+abbrev pub NodesPay : Type 0
+NodesPay =
+    (S : System) (p : ℕ) (c : Weights) (prices : List Priced) → nodes_pay S p c prices ≡ true
+    → PayForNodes S p c prices

@@ -1,0 +1,192 @@
+-- Nodes of two small systems by hand.
+use Rattle.std.specs.Prelude.{ℕ, ◌≡◌, true, false, List, [], ◌∷◌, ◌++◌, Option, Some, None, drop, map}
+use Rattle.osek_base.specs.declared.ids.Owner.{Owner}
+use Rattle.osek_base.specs.declared.ids.ResId.{ResId}
+use Rattle.osek_base.specs.declared.instr.Comparison.{Comparison}
+use Rattle.osek_base.specs.declared.instr.Control.{Control}
+use Rattle.osek_base.specs.declared.instr.Instr.{Instr}
+use Rattle.osek_base.specs.declared.instr.Operation.{Operation}
+use Rattle.osek_base.specs.declared.instr.Plain.{Plain}
+use Rattle.osek_base.specs.declared.instr.Service.{Service}
+use Rattle.osek_base.specs.declared.task.Property.{Property}
+use Rattle.osek_base.specs.System.{System, Task, no_task}
+use Rattle.law_costs.specs.Left.{Weights}
+use Rattle.law_nodes.specs.Closed.{is_closed}
+use Rattle.law_nodes.specs.Nodes.{Node, Table, fresh_node}
+use Rattle.law_nodes.specs.Paid.{prices_pay}
+use Rattle.law_nodes.specs.Prices.{Priced}
+use Rattle.law_nodes.specs.Steps.{steps}
+
+-- a system of a task and perhaps a routine, a resource and an event
+abbrev pub of_task : Task → System
+of_task a =
+    record {
+      names =
+          record {
+            tasks = [];
+            routines = [];
+            resources = [];
+            events = [];
+            alarms = [];
+            modes = [] ∷ [];
+          };
+      tasks = record a { priority = 1; activation = 1 } ∷ [];
+      routines = [];
+      resources = [];
+      events = [];
+      counters = [];
+      alarms = [];
+      hooks =
+          record {
+            startup = false;
+            shutdown = false;
+            error = false;
+            pre_task = false;
+            post_task = false;
+          };
+      use_res_scheduler = false;
+    }
+
+-- a node of the task at a place; r0, r1 and r2 are those, all others 0
+abbrev pub at : ℕ → Option ℕ → Option ℕ → Option ℕ → Node
+at place x y z =
+    record (fresh_node (Owner.Task 0)) {
+      place = place;
+      registers =
+          x ∷ y ∷ z ∷ Some 0 ∷ Some 0 ∷ Some 0 ∷ Some 0 ∷ Some 0 ∷ [];
+    }
+
+-- ---- a loop of three rounds
+
+abbrev pub counting : System
+counting =
+    of_task (record no_task {
+      program =
+          Instr.Plain (Plain.Li 1 3) ∷ Instr.Plain (Plain.Li 2 1)
+          ∷ Instr.Plain (Plain.Compute Operation.Sub 1 1 2)
+          ∷ Instr.Plain (Plain.JumpIf Comparison.NotEqual 1 3 2)
+          ∷ Instr.Service Service.TerminateTask ∷ Instr.Plain (Plain.Jmp 5) ∷ [];
+    })
+
+-- a node for each of its ticks
+abbrev pub counted : Table
+counted =
+    at 0 (Some 0) (Some 0) (Some 0) ∷ at 1 (Some 0) (Some 3) (Some 0)
+    ∷ at 2 (Some 0) (Some 3) (Some 1) ∷ at 3 (Some 0) (Some 2) (Some 1)
+    ∷ at 2 (Some 0) (Some 2) (Some 1) ∷ at 3 (Some 0) (Some 1) (Some 1)
+    ∷ at 2 (Some 0) (Some 1) (Some 1) ∷ at 3 (Some 0) (Some 0) (Some 1)
+    ∷ at 4 (Some 0) (Some 0) (Some 1) ∷ []
+
+-- ---- a task that takes a resource and waits for an event, which a routine sets
+
+abbrev pub waiting : System
+waiting =
+    record (of_task (record no_task {
+      resources = 0 ∷ [];
+      events = 1 ∷ [];
+      program =
+          Instr.Service (Service.GetResource (Some (ResId.Declared 0)))
+          ∷ Instr.Service (Service.ReleaseResource (Some (ResId.Declared 0)))
+          ∷ Instr.Service (Service.WaitEvent 1) ∷ Instr.Service Service.TerminateTask
+          ∷ Instr.Plain (Plain.Jmp 4) ∷ [];
+    })) {
+      routines =
+          record {
+            priority = 1;
+            program =
+                Instr.Service (Service.SetEvent (Some 0) 1)
+                ∷ Instr.Control Control.ReturnFromInterrupt ∷ [];
+          } ∷ [];
+      resources = Property.Standard ∷ [];
+      events = 1 ∷ [];
+    }
+
+abbrev pub zero_but : Option ℕ → ℕ → Node
+zero_but x place = at place x (Some 0) (Some 0)
+
+abbrev pub of_routine_at : Option ℕ → ℕ → Node
+of_routine_at x place = record (zero_but x place) { owner = Owner.Routine 0 }
+
+-- it holds the resource
+abbrev pub holding : Node
+holding = record (zero_but (Some 0) 1) { held = ResId.Declared 0 ∷ [] }
+
+-- it waits
+abbrev pub resting : Node
+resting = record (zero_but (Some 0) 3) { waits_for = Some 1 }
+
+-- where r0 isn't known behind ReleaseResource and SetEvent, one node stands for two each
+abbrev pub waited : Table
+waited =
+    zero_but (Some 0) 0 ∷ holding ∷ zero_but (Some 1) 1 ∷ zero_but None 2 ∷ zero_but (Some 0) 3
+    ∷ resting ∷ of_routine_at (Some 0) 0 ∷ of_routine_at None 1 ∷ []
+
+-- ---- what they cost
+
+-- costs of a task and of an interrupt of the routine; nothing is below the level
+abbrev pub weights : ℕ → ℕ → Weights
+weights task arrival =
+    record {
+      of_active = λ w a. 0;
+      of_job = λ w j. 0;
+      of_task = λ t. task;
+      of_event = λ t m. 0;
+      of_section = 0;
+      costs =
+          record { of_arrival = λ i. arrival; of_expiry = λ a. 0; at_boot = 0; at_begin = 0 };
+    }
+
+-- a table with costs, node by node
+abbrev pub with_costs : Table → List ℕ → List Priced
+with_costs (n ∷ table) (cost ∷ costs) =
+    record { node = n; cost = cost } ∷ with_costs table costs
+with_costs _ _ = []
+
+-- from nine down to one
+abbrev pub counted_costs : List Priced
+counted_costs = with_costs counted (9 ∷ 8 ∷ 7 ∷ 6 ∷ 5 ∷ 4 ∷ 3 ∷ 2 ∷ 1 ∷ [])
+
+-- four instructions of the task, of which the event pays for the last one, and two of the routine,
+-- which sets the event
+abbrev pub waited_costs : List Priced
+waited_costs = with_costs waited (4 ∷ 3 ∷ 3 ∷ 2 ∷ 1 ∷ 1 ∷ 3 ∷ 1 ∷ [])
+
+-- ---- what they come to
+
+pub record WorkedNodes : Type 0 where
+  -- each node has the next one for its only step, and the last one none
+  pub counting_steps : map (steps counting) counted
+      ≡ map (λ n. n ∷ []) (drop 1 counted) ++ [] ∷ []
+  pub counting_closed : is_closed counting counted ≡ true
+  -- without the last node the table isn't closed, nor without the first
+  pub open_end : is_closed counting
+      (at 0 (Some 0) (Some 0) (Some 0) ∷ at 1 (Some 0) (Some 3) (Some 0) ∷ []) ≡ false
+  pub open_start : is_closed counting (drop 1 counted) ≡ false
+  -- the resource may be refused, and is E_OS_ACCESS then
+  pub getting : steps waiting (zero_but (Some 0) 0) ≡ zero_but (Some 1) 1 ∷ holding ∷ []
+  -- who holds it releases it; who doesn't is answered E_OS_NOFUNC
+  pub releasing : steps waiting holding ≡ zero_but (Some 0) 2 ∷ []
+  pub refused : steps waiting (zero_but (Some 1) 1) ≡ zero_but (Some 5) 2 ∷ []
+  -- it goes on or waits, and while it waits it does nothing
+  pub awaiting : steps waiting (zero_but None 2) ≡ zero_but (Some 0) 3 ∷ resting ∷ []
+  pub at_rest : steps waiting resting ≡ []
+  -- the task may have no job: E_OS_STATE
+  pub setting : steps waiting (of_routine_at (Some 0) 0)
+      ≡ of_routine_at (Some 7) 1 ∷ of_routine_at (Some 0) 1 ∷ []
+  pub waiting_closed : is_closed waiting waited ≡ true
+  -- with interrupts off nothing but the status changes: E_OS_SYS_DISABLED
+  pub disabled : steps waiting
+      (record holding { switch = record { disabled = true; suspended_all = 0; suspended_os = 0 } })
+      ≡ record holding {
+        switch = record { disabled = true; suspended_all = 0; suspended_os = 0 };
+        place = 2;
+        registers = (zero_but (Some 32) 2).registers;
+      } ∷ []
+  -- one instruction a node is enough for the loop, and with less they don't pay
+  pub counting_pays : prices_pay counting 0 1 (weights 9 0) (λ t. 0) counted_costs ≡ true
+  pub too_little : prices_pay counting 0 1 (weights 8 0) (λ t. 0) counted_costs ≡ false
+  pub one_too_cheap : prices_pay counting 0 1 (weights 9 0) (λ t. 0)
+      (with_costs counted (9 ∷ 8 ∷ 7 ∷ 6 ∷ 5 ∷ 5 ∷ 3 ∷ 2 ∷ 1 ∷ [])) ≡ false
+  pub waiting_pays : prices_pay waiting 0 1 (weights 4 3) (λ t. 1) waited_costs ≡ true
+  pub event_is_free : prices_pay waiting 0 1 (weights 4 3) (λ t. 0) waited_costs ≡ false
+  pub interrupt_too_cheap : prices_pay waiting 0 1 (weights 4 2) (λ t. 1) waited_costs ≡ false
