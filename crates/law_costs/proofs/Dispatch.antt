@@ -1,6 +1,6 @@
 -- A dispatch adds nothing.
 use Rattle.std.proofs.Common.{ℕ, ◌≡◌, ◌<◌, ◌≤◌, inl, inr, max, Bool, true, false, cond, not, ◌&&◌, nat_le, List, [], ◌∷◌, map, refl, sym, ◌∙◌, ap, subst, arith}
-use Rattle.std.specs.Prelude.{Option, Some, None, is_some, unwrap_or}
+use Rattle.std.specs.Prelude.{Option, Some, None, is_some, unwrap_or, slice_index}
 use Rattle.std.specs.List.{AllByRecursion, sum_by}
 use Rattle.std.proofs.lemmas.Bool.{and_parts, cases_lt, le-leb, leb-true, not-true}
 use Rattle.osek_base.specs.Ceiling.{ceiling, internal_ceiling}
@@ -39,9 +39,6 @@ module _ (S : System) (p : ℕ) (c : Weights) where
   abbrev pub is_high : Job → Bool
   is_high j = counts S p on j
 
-  abbrev pub left_on : List Job → ℕ
-  left_on jobs = left_of_jobs S p c (λ j. on) jobs
-
   pub high : (j : Job) → waits j ≡ false → p ≤ dynamic_priority S j → is_high j ≡ true
   high j ready up =
       ap (λ b. not b && nat_le p (dynamic_priority S j)) ready
@@ -64,8 +61,15 @@ module _ (S : System) (p : ℕ) (c : Weights) where
           let down = low parts.0 in
           absurd (omega (arith, up, down))
 
-  module _ (pays : PayForDispatch S p c) (jobs : List Job) (apart : Pairs AreApart jobs) (k : Job)
-      (chosen : choice S jobs ≡ Some k) where
+  module _ (pays : PayForDispatch S p c) (masks : List ℕ) (jobs : List Job)
+      (apart : Pairs AreApart jobs) (k : Job) (chosen : choice S jobs ≡ Some k) where
+    abbrev left_on : List Job → ℕ
+    left_on ks = left_of_jobs S p c masks (λ j. on) ks
+
+    -- what a job costs by its events
+    abbrev cost_on : Job → ℕ
+    cost_on j = c.of_job (slice_index masks j.id.task) on j
+
     abbrev enters : Job → Job
     enters j = cond (same_id j.id k.id) (entered S j) j
 
@@ -92,7 +96,7 @@ module _ (S : System) (p : ℕ) (c : Weights) where
         any (j ∷ xs) = (tt, any xs)
 
     abbrev left_entering : Job → ℕ
-    left_entering j = left_of_job S p c (λ l. on) j
+    left_entering j = left_of_job S p c masks (λ l. on) j
 
     entered_high : p ≤ dynamic_priority S (entered S k) → is_high (entered S k) ≡ true
     entered_high up = high (entered S k) top.0 up
@@ -100,7 +104,7 @@ module _ (S : System) (p : ℕ) (c : Weights) where
     -- one that counts goes on
     goes_on : p ≤ dynamic_priority S k → left_on (map enters jobs) ≤ left_on jobs
     goes_on up =
-        total_mapped is_high (c.of_job on) c.of_section enters jobs
+        total_mapped is_high cost_on c.of_section enters jobs
         (found_counts is_high (is_best S jobs) jobs k chosen (high k top.0 up))
         (found_mapped is_high (is_best S jobs) enters jobs k chosen
         (ap (λ b. is_high (cond b (entered S k) k)) (same_self k.id) ∙ entered_high higher))
@@ -113,11 +117,11 @@ module _ (S : System) (p : ℕ) (c : Weights) where
 
         itself_less : left_entering (entered S k) ≤ left_entering k
         itself_less =
-            let one : left_entering (entered S k) ≡ c.of_job on (entered S k) =
-            ap (λ b. cond b (c.of_job on (entered S k)) 0) (entered_high higher) in
-            let other : left_entering k ≡ c.of_job on k =
-            ap (λ b. cond b (c.of_job on k) 0) (high k top.0 up) in
-            let pay = pays.entering k top.0 up in
+            let one : left_entering (entered S k) ≡ cost_on (entered S k) =
+            ap (λ b. cond b (cost_on (entered S k)) 0) (entered_high higher) in
+            let other : left_entering k ≡ cost_on k =
+            ap (λ b. cond b (cost_on k) 0) (high k top.0 up) in
+            let pay = pays.entering (slice_index masks k.id.task) k top.0 up in
             omega (arith, one, other, pay)
 
         less : (j : Job) (b : Bool) → same_id j.id k.id ≡ b
@@ -130,7 +134,7 @@ module _ (S : System) (p : ℕ) (c : Weights) where
     -- where none counts, a section may begin
     begins : dynamic_priority S k < p → left_on (map enters jobs) ≤ left_on jobs
     begins low =
-        total_begun is_high (c.of_job on) c.of_section jobs (map enters jobs)
+        total_begun is_high cost_on c.of_section jobs (map enters jobs)
         (none_any is_high jobs none) few
       where
         none : AllByRecursion (λ j. is_high j ≡ false) jobs
@@ -140,8 +144,10 @@ module _ (S : System) (p : ℕ) (c : Weights) where
             (λ j h. not_high j (λ ready. let under = h ready in omega (arith, under, low))) top.1
 
         section : (b : Bool) → is_high (entered S k) ≡ b
-            → cond b (c.of_job on (entered S k)) 0 ≤ c.of_section
-        section true is = pays.beginning k top.0 low (high_parts (entered S k) is).1
+            → cond b (cost_on (entered S k)) 0 ≤ c.of_section
+        section true is =
+            pays.beginning (slice_index masks k.id.task) k top.0 low
+            (high_parts (entered S k) is).1
         section false is = omega arith
 
         each : (j : Job) → (same_id j.id k.id ≡ true → j ≡ k) → is_high j ≡ false
@@ -152,7 +158,7 @@ module _ (S : System) (p : ℕ) (c : Weights) where
               (subst (λ z. left_entering (entered S z) ≤ c.of_section) (sym (same is))
               (section (is_high (entered S k)) refl)),
           λ is. ap (λ b. left_entering (cond b (entered S j) j)) is
-              ∙ ap (λ b. cond b (c.of_job on j) 0) unhigh,
+              ∙ ap (λ b. cond b (cost_on j) 0) unhigh,
         )
 
         one_only : Pairs (λ x y. same_id x.id k.id ≡ true → same_id y.id k.id ≡ false) jobs
@@ -184,10 +190,13 @@ module _ (S : System) (p : ℕ) (c : Weights) where
       | inr up ↦ goes_on up
     ]
 
-  dispatched_less : PayForDispatch S p c → (jobs : List Job) → Pairs AreApart jobs
-      → (o : Option Job) → choice S jobs ≡ o → left_on (jobs_entered S o jobs) ≤ left_on jobs
-  dispatched_less pays jobs apart None chosen = omega arith
-  dispatched_less pays jobs apart (Some k) chosen = chosen_less pays jobs apart k chosen
+  dispatched_less : PayForDispatch S p c → (masks : List ℕ) (jobs : List Job)
+      → Pairs AreApart jobs → (o : Option Job) → choice S jobs ≡ o
+      → left_of_jobs S p c masks (λ j. on) (jobs_entered S o jobs)
+      ≤ left_of_jobs S p c masks (λ j. on) jobs
+  dispatched_less pays masks jobs apart None chosen = omega arith
+  dispatched_less pays masks jobs apart (Some k) chosen =
+      chosen_less pays masks jobs apart k chosen
 
   pub reschedule_less : PayForDispatch S p c → (s : State) → IsSingle S s
       → left S p c (reschedule S s).state ≤ left S p c s
@@ -203,10 +212,10 @@ module _ (S : System) (p : ℕ) (c : Weights) where
       go true may =
           let there : State = (with_dispatch_of s (switched S (choice S s.jobs) s)).state in
           let is = (dispatching s may).1 in
-          let before = ap (λ find. left_of_jobs S p c find s.jobs) (all_on s is) in
-          let behind = ap (λ find. left_of_jobs S p c find there.jobs) (all_on there is) in
+          let before = ap (λ find. left_of_jobs S p c s.masks find s.jobs) (all_on s is) in
+          let behind = ap (λ find. left_of_jobs S p c s.masks find there.jobs) (all_on there is) in
           let less =
-          dispatched_less pays s.jobs
+          dispatched_less pays s.masks s.jobs
           (pairs_weaker (IsSoundPair S) AreApart s.jobs (λ x y h. h.apart) single.pairs)
           (choice S s.jobs) refl in
           omega (arith, before, behind, less)

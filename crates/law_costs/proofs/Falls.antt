@@ -37,6 +37,7 @@ use Rattle.law_costs.proofs.KnownSetting.{set_no_sooner}
 use Rattle.law_costs.proofs.Positive.{something_left}
 use Rattle.law_costs.proofs.Ticks.{before_adds, behind_less}
 use Rattle.law_costs.proofs.Totals.{sum_within}
+use Rattle.law_costs.proofs.Unmet.{at_unmet, run_unmet}
 
 each_in : (xs : List ℕ) → AllByRecursion (λ x. is_in x xs ≡ true) xs
 each_in [] = tt
@@ -87,6 +88,7 @@ module _ (S : System) (mode : ℕ) (arrivals : List Arrival) (p : ℕ) (c : Weig
         good = good n;
         form = run_form S proper mode arrivals n;
         jobs = (run_known S known proper stays mode arrivals n going).jobs;
+        unmet = run_unmet S proper mode arrivals n going;
       })
       in
       let same = ap (left S p c) (executing_is S mode arrivals n going) in
@@ -157,11 +159,12 @@ costs_fall_by_phases S mode arrivals p c known proper stays pay = record {
     pays =
         jobs_pay S mode arrivals p c proper pay.dispatch
         (λ n going.
-        starts_pay S known p c pay.starts (at_instruction S mode arrivals n)
+        starts_pay S known p c proper pay.starts (at_instruction S mode arrivals n)
         (record {
           good = (executing S proper mode arrivals n going).good;
           form = at_form S proper mode arrivals n going;
           jobs = (at_known S known proper stays mode arrivals n going).jobs;
+          unmet = at_unmet S proper mode arrivals n going;
         }))
         (known_routines_pay S known proper stays mode arrivals c pay.routines)
         (known_jobs_pay S known proper stays mode arrivals p c pay.jobs)

@@ -51,8 +51,8 @@ module _ (S : System) (p : ℕ) (c : Weights) where
         (is_foremost (is_pending s) rank (below (length S.routines))) (below (length S.routines)) i
         chosen pends (flag_off s.pending i) (λ k is. not_taken s.pending i k is) in
         let is = (dispatching s may).1 in
-        let jobs = ap (λ find. left_of_jobs S p c find s.jobs) (all_on s is) in
-        let after = ap (λ find. left_of_jobs S p c find s.jobs) (all_on there is) in
+        let jobs = ap (λ find. left_of_jobs S p c s.masks find s.jobs) (all_on s is) in
+        let after = ap (λ find. left_of_jobs S p c s.masks find s.jobs) (all_on there is) in
         let starts : left_of_active c (switch_of there) there.active ≡ c.of_active on (begun i) =
         ap (λ w. c.of_active w (begun i)) is in
         let pay = pays.routine i best.0 in

@@ -22,7 +22,7 @@ behind_instruction S mode arrivals n =
 abbrev pub PayForRunStarts : System → ℕ → List Arrival → ℕ → Weights → Type 0
 PayForRunStarts S mode arrivals p c =
     (n : ℕ) → (run S mode arrivals n).state.over ≡ false
-    → StartsPay S p c (at_instruction S mode arrivals n).jobs
+    → StartsPay S p c (at_instruction S mode arrivals n)
 
 abbrev pub PayForRunJobs : System → ℕ → List Arrival → ℕ → Weights → Type 0
 PayForRunJobs S mode arrivals p c =

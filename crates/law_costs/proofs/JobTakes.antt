@@ -1,6 +1,6 @@
 -- An instruction of a job takes one, or leaves no more than may be where a window begins.
 use Rattle.std.proofs.Common.{ℕ, ◌≡◌, ◌<◌, ◌≤◌, ◌+◌, Bool, true, false, cond, not, ◌&&◌, refl, sym, ◌∙◌, ap, subst, arith}
-use Rattle.std.specs.Prelude.{Option, Some, None, is_some, slice_index_or}
+use Rattle.std.specs.Prelude.{Option, Some, None, is_some, slice_index, slice_index_or}
 use Rattle.std.specs.List.{list_any, sum_by}
 use Rattle.osek_base.specs.declared.ids.Owner.{Owner}
 use Rattle.osek_base.specs.declared.instr.Control.{Control}
@@ -18,7 +18,7 @@ use Rattle.law_runs.proofs.Lists.{all_any, any_none, found, pairs_weaker}
 use Rattle.law_runs.proofs.RankedTick.{IsRunState}
 use Rattle.law_runs.proofs.Single.{IsSingle, IsSoundPair}
 use Rattle.law_runs.proofs.SingleMoves.{other_way}
-use Rattle.law_costs.specs.Left.{Weights, counts, is_off, left, left_of_active, left_of_job, left_of_jobs, left_of_pending, on, switch_for, switch_of}
+use Rattle.law_costs.specs.Left.{Switch, Weights, counts, is_off, left, left_of_active, left_of_job, left_of_jobs, left_of_pending, on, switch_for, switch_of}
 use Rattle.law_costs.specs.Jobs.{PaysIn, behind, left_behind, left_of_own, left_of_section, started}
 use Rattle.law_costs.proofs.JobStarts.{left_of_others, others_add}
 use Rattle.law_costs.proofs.Parts.{of_found, sum_apart}
@@ -98,22 +98,23 @@ module _ (S : System) (s : State) (n : JobId) (runs : Runs s n) where
 
 module _ (S : System) (p : ℕ) (c : Weights) (s : State) (n : JobId) (runs : Runs s n) where
   -- of all jobs it is that of the running one, and of the others with interrupts on
-  pub sum_is : IsSingle S s → sum_by (left_of_job S p c (switch_for s)) s.jobs
-      ≡ of_found (left_of_job S p c (switch_for s)) (job_of n s.jobs)
-      + left_of_others S p c n s.jobs
+  pub sum_is : IsSingle S s → sum_by (left_of_job S p c s.masks (switch_for s)) s.jobs
+      ≡ of_found (left_of_job S p c s.masks (switch_for s)) (job_of n s.jobs)
+      + left_of_others S p c s.masks n s.jobs
   sum_is single =
-      sum_apart (left_of_job S p c (switch_for s)) (left_of_job S p c (λ l. on))
+      sum_apart (left_of_job S p c s.masks (switch_for s)) (left_of_job S p c s.masks (λ l. on))
       (λ k. same_id k.id n) s.jobs
       (pairs_weaker (IsSoundPair S) (λ x y. same_id x.id n ≡ true → same_id y.id n ≡ false) s.jobs
       (λ x y h is. subst (λ m. same_id y.id m ≡ false) (same_ids x.id n is) h.apart) single.pairs)
       (all_any (λ k. same_id k.id n ≡ false
-      → left_of_job S p c (switch_for s) k ≡ left_of_job S p c (λ l. on) k) s.jobs
+      → left_of_job S p c s.masks (switch_for s) k ≡ left_of_job S p c s.masks (λ l. on) k) s.jobs
       (λ k other.
-      ap (λ w. cond (counts S p w k) (c.of_job w k) 0) (other_switch S s n runs k other)))
+      ap (λ w. cond (counts S p w k) (c.of_job (slice_index s.masks k.id.task) w k) 0)
+      (other_switch S s n runs k other)))
 
 -- ---- an instruction
 
-module _ (S : System) (p : ℕ) (c : Weights) (s : State) (starts : StartsPay S p c s.jobs)
+module _ (S : System) (p : ℕ) (c : Weights) (s : State) (starts : StartsPay S p c s)
     (good : IsRunState S s) (j : Job) (calls : IsRunningCaller s j)
     (single : IsSingle S (behind S s j)) (pays : PaysIn S p c s j) where
   abbrev e : State
@@ -131,18 +132,18 @@ module _ (S : System) (p : ℕ) (c : Weights) (s : State) (starts : StartsPay S 
     runs = behind_running S s j ∙ calls.runs;
   }
 
-  others_more : left_of_others S p c j.id e.jobs
-      ≤ left_of_others S p c j.id s.jobs + started S c s j
-  others_more = others_add S p c s starts good j (owner_of j) j.context (next_of S j)
+  others_more : left_of_others S p c e.masks j.id e.jobs
+      ≤ left_of_others S p c s.masks j.id s.jobs + started S c s j
+  others_more = others_add S p c s starts good j calls (owner_of j) j.context (next_of S j)
 
   -- what is left of the job itself is told by what is asked of it
   own_less : (o : Option Job) → job_of j.id e.jobs ≡ o
-      → of_found (left_of_job S p c (switch_for e)) o
-      ≤ left_of_own S p c (switch_of s) (switch_of e) o
+      → of_found (left_of_job S p c e.masks (switch_for e)) o
+      ≤ left_of_own S p c e.masks (switch_of s) (switch_of e) o
   own_less None is = omega arith
   own_less (Some k) is =
-      subst (λ w. cond (counts S p w k) (c.of_job w k) 0
-      ≤ left_of_own S p c (switch_of s) (switch_of e) (Some k))
+      subst (λ w. cond (counts S p w k) (c.of_job (slice_index e.masks k.id.task) w k) 0
+      ≤ left_of_own S p c e.masks (switch_of s) (switch_of e) (Some k))
       (sym (own_switch S e j.id after k own)) (go (counts S p (switch_of e) k))
     where
       own : same_id k.id j.id ≡ true
@@ -150,15 +151,16 @@ module _ (S : System) (p : ℕ) (c : Weights) (s : State) (starts : StartsPay S 
           (found (λ l. Unit {0}) (λ l. same_id l.id j.id) e.jobs k
           (all_any (λ l. Unit {0}) e.jobs (λ l. tt)) is).1
 
-      go : (b : Bool) → cond b (c.of_job (switch_of e) k) 0
-          ≤ cond b (c.of_job (switch_of e) k) (left_of_section c (switch_of s))
+      go : (b : Bool) → cond b (c.of_job (slice_index e.masks k.id.task) (switch_of e) k) 0
+          ≤ cond b (c.of_job (slice_index e.masks k.id.task) (switch_of e) k)
+          (left_of_section c (switch_of s))
       go true = omega arith
       go false = omega arith
 
   -- where none counts, a section may begin
   section_less : list_any (counted e) e.jobs ≡ false → is_off (switch_of s) ≡ true
       → (o : Option Job) → job_of j.id e.jobs ≡ o
-      → c.of_section ≤ left_of_own S p c (switch_of s) (switch_of e) o
+      → c.of_section ≤ left_of_own S p c e.masks (switch_of s) (switch_of e) o
   section_less none off None is =
       let whole : left_of_section c (switch_of s) ≡ c.of_section =
       ap (λ b. cond b c.of_section 0) off in
@@ -171,9 +173,12 @@ module _ (S : System) (p : ℕ) (c : Weights) (s : State) (starts : StartsPay S 
       (any_none (counted e) e.jobs none) is in
       let out : counts S p (switch_of e) k ≡ false =
       ap (λ w. counts S p w k) (sym (own_switch S e j.id after k both.1)) ∙ both.0 in
-      let own : left_of_own S p c (switch_of s) (switch_of e) (Some k)
+      let own : left_of_own S p c e.masks (switch_of s) (switch_of e) (Some k)
       ≡ left_of_section c (switch_of s) =
-      ap (λ b. cond b (c.of_job (switch_of e) k) (left_of_section c (switch_of s))) out in
+      ap
+      (λ b. cond b (c.of_job (slice_index e.masks k.id.task) (switch_of e) k)
+      (left_of_section c (switch_of s)))
+      out in
       omega (arith, whole, own)
 
   unactive : (r : State) → r.active ≡ None → left_of_active c (switch_of r) r.active ≡ 0
@@ -186,13 +191,13 @@ module _ (S : System) (p : ℕ) (c : Weights) (s : State) (starts : StartsPay S 
 
   -- of the jobs behind it
   jobs_behind : (list_any (counted e) e.jobs ≡ false → is_off (switch_of s) ≡ true)
-      → left_of_jobs S p c (switch_for e) e.jobs
-      ≤ left_behind S p c s j + (left_of_others S p c j.id s.jobs + started S c s j)
+      → left_of_jobs S p c e.masks (switch_for e) e.jobs
+      ≤ left_behind S p c s j + (left_of_others S p c s.masks j.id s.jobs + started S c s j)
   jobs_behind stands = go (list_any (counted e) e.jobs) refl
     where
       go : (b : Bool) → list_any (counted e) e.jobs ≡ b
-          → cond b (sum_by (left_of_job S p c (switch_for e)) e.jobs) c.of_section
-          ≤ left_behind S p c s j + (left_of_others S p c j.id s.jobs + started S c s j)
+          → cond b (sum_by (left_of_job S p c e.masks (switch_for e)) e.jobs) c.of_section
+          ≤ left_behind S p c s j + (left_of_others S p c s.masks j.id s.jobs + started S c s j)
       go true some =
           let whole = sum_is S p c e j.id after single in
           let own = own_less (job_of j.id e.jobs) refl in
@@ -214,21 +219,24 @@ module _ (S : System) (p : ℕ) (c : Weights) (s : State) (starts : StartsPay S 
       let pending = same_pending in
       let jobs = jobs_behind stands in
       let whole = sum_is S p c s j.id here good.single in
-      let found : of_found (left_of_job S p c (switch_for s)) (job_of j.id s.jobs)
-      ≡ c.of_job (switch_of s) j =
-      ap (of_found (left_of_job S p c (switch_for s))) calls.found
-      ∙ ap (λ w. cond (counts S p w j) (c.of_job w j) 0) own
-      ∙ ap (λ b. cond b (c.of_job (switch_of s) j) 0) counting in
-      let some : left_of_jobs S p c (switch_for s) s.jobs
-      ≡ sum_by (left_of_job S p c (switch_for s)) s.jobs =
-      ap (λ b. cond b (sum_by (left_of_job S p c (switch_for s)) s.jobs) c.of_section)
+      let found : of_found (left_of_job S p c s.masks (switch_for s)) (job_of j.id s.jobs)
+      ≡ cost (switch_of s) =
+      ap (of_found (left_of_job S p c s.masks (switch_for s))) calls.found
+      ∙ ap (λ w. cond (counts S p w j) (cost w) 0) own
+      ∙ ap (λ b. cond b (cost (switch_of s)) 0) counting in
+      let some : left_of_jobs S p c s.masks (switch_for s) s.jobs
+      ≡ sum_by (left_of_job S p c s.masks (switch_for s)) s.jobs =
+      ap (λ b. cond b (sum_by (left_of_job S p c s.masks (switch_for s)) s.jobs) c.of_section)
       (found_counts (counted s) (λ k. same_id k.id j.id) s.jobs j calls.found
       (ap (λ w. counts S p w j) own ∙ counting)) in
       omega (arith, take, idle, none, pending, jobs, whole, found, some)
+    where
+      cost : Switch → ℕ
+      cost w = c.of_job (slice_index s.masks j.id.task) w j
 
   -- where its task is below the level and nothing else is left, no more than may be at a beginning
   pub job_begins : priority_of S j.id.task < p → left_of_pending S c s ≡ 0
-      → left_of_others S p c j.id s.jobs ≡ 0
+      → left_of_others S p c s.masks j.id s.jobs ≡ 0
       → (list_any (counted e) e.jobs ≡ false → is_off (switch_of s) ≡ true)
       → left S p c e ≤ c.costs.at_begin
   job_begins low quiet alone stands =

@@ -83,7 +83,7 @@ module _ (S : System) (p : ℕ) (c : Weights) (proper : IsProper S)
           job_keeps S Low lasts s executing.good kept.low j calls
           (subst (IsSingle S) (executed_is S s (JobCalls j) is)
           (execute_single S proper s executing.good.single))
-          (own_low S p c s j calls (pays j is));
+          (own_low S p c dispatch s j calls (pays j is));
       held = job_held S s j calls;
     }
     by_caller (RoutineCalls a) is calls = record {

@@ -23,6 +23,7 @@ use Rattle.law_runs.proofs.SingleTick.{execute_single}
 use Rattle.law_costs.specs.Left.{Switch, switch_for, switch_of}
 use Rattle.law_costs.specs.Known.{Executes, IsKnownJob, IsKnownRoutine, Known, StaysKnown}
 use Rattle.law_costs.specs.Jobs.{behind}
+use Rattle.law_costs.proofs.Excluding.{excludes_others}
 use Rattle.law_costs.proofs.InstructionKeeps.{job_keeps, routine_keeps}
 use Rattle.law_costs.proofs.InTicks.{executed_is}
 use Rattle.law_costs.proofs.JobsKeep.{Each, Lasts, alarm_phase_keeps, reschedule_keeps, start_keeps}
@@ -164,6 +165,9 @@ module _ (S : System) (known : Known) where
           good = good_state S s executing.good form;
           shaped = shaped S s executing.good form;
           calls = is;
+          excludes =
+              excludes_others S proper s executing who
+              (subst (IsCaller s) is (executor_calls s));
           goes_on = sym (ap (λ (e : State). e.over) (executed_is S s who is)) ∙ goes_on;
         }
 

@@ -2,6 +2,7 @@ pub mod Totals
 pub mod Parts
 pub mod Switches
 pub mod Dispatch
+pub mod Events
 pub mod Flags
 pub mod Starts
 pub mod Ticks
@@ -24,7 +25,11 @@ pub mod Kept
 pub mod Quiet
 pub mod Executor
 pub mod Jobs
+pub mod Excluding
 pub mod KnownTick
+pub mod Waiting
+pub mod Unmet
 pub mod KnownStarts
 pub mod Known
 pub mod KnownSetting
+pub mod AtKnownTicks

@@ -1,7 +1,7 @@
 -- Jobs below a level: none but the running one is raised to that one's priority, and of none that
 -- counts more is left than may be where a window begins.
 use Rattle.std.proofs.Common.{ℕ, ◌≡◌, ◌<◌, ◌≤◌, inl, inr, true, false, cond, sym, ◌∙◌, ap, subst, arith}
-use Rattle.std.specs.Prelude.{Option, Some}
+use Rattle.std.specs.Prelude.{Option, Some, slice_index}
 use Rattle.std.proofs.lemmas.Bool.{cases_lt}
 use Rattle.osek_base.specs.GoodState.{is_raised}
 use Rattle.osek_base.specs.Priority.{dynamic_priority}
@@ -27,8 +27,8 @@ module _ (S : System) (p : ℕ) (c : Weights) where
     pub beneath : (r : JobId) → running ≡ Some r → same_id k.id r ≡ false
         → is_raised S k ≡ true → dynamic_priority S k < priority_of S r.task
     -- where it is below the level and counts, little is left of it
-    pub little : priority_of S k.id.task < p → counts S p w k ≡ true
-        → c.of_job w k ≤ c.costs.at_begin
+    pub little : (m : ℕ) → priority_of S k.id.task < p → counts S p w k ≡ true
+        → c.of_job m w k ≤ c.costs.at_begin
 
   abbrev pub AreLow : State → Type 0
   AreLow s = Each S IsLow s
@@ -36,7 +36,7 @@ module _ (S : System) (p : ℕ) (c : Weights) where
   new_low : (o : Option JobId) (k : Job) → IsNewest S o k → IsLow o on k
   new_low o k new = record {
     beneath = λ r runs other raised. clash (sym raised ∙ new.unraised);
-    little = λ low counting.
+    little = λ m low counting.
         (let up = (high_parts S p c k counting).1 in
         let level = new.level in
         absurd (omega (arith, up, level, low)));
@@ -51,19 +51,19 @@ module _ (S : System) (p : ℕ) (c : Weights) where
     chosen_low o k ready h = record {
       beneath = λ r runs other raised.
           clash (sym (same_self k.id) ∙ ap (λ n. same_id k.id n) (some_inside k.id r runs) ∙ other);
-      little = λ low counting. little low (high_parts S p c (entered S k) counting).1;
+      little = λ m low counting. little m low (high_parts S p c (entered S k) counting).1;
     }
       where
-        little : priority_of S k.id.task < p → p ≤ dynamic_priority S (entered S k)
-            → c.of_job on (entered S k) ≤ c.costs.at_begin
-        little low there = elim (cases_lt (dynamic_priority S k) p) [
+        little : (m : ℕ) → priority_of S k.id.task < p → p ≤ dynamic_priority S (entered S k)
+            → c.of_job m on (entered S k) ≤ c.costs.at_begin
+        little m low there = elim (cases_lt (dynamic_priority S k) p) [
           | inl under ↦
-              let begin = pays.beginning k ready under there in
+              let begin = pays.beginning m k ready under there in
               let section = pays.section in
               omega (arith, begin, section)
           | inr up ↦
-              let enter = pays.entering k ready up in
-              let before = h.little low (high S p c k ready up) in
+              let enter = pays.entering m k ready up in
+              let before = h.little m low (high S p c k ready up) in
               omega (arith, enter, before)
         ]
 
@@ -89,25 +89,30 @@ module _ (S : System) (p : ℕ) (c : Weights) where
   -- ---- an instruction
 
   -- the job that executes it
-  pub own_low : (s : State) (j : Job) → IsRunningCaller s j → PaysIn S p c s j → (k : Job)
+  pub own_low : PayForDispatch S p c → (s : State) (j : Job) → IsRunningCaller s j
+      → PaysIn S p c s j → (k : Job)
       → same_id k.id j.id ≡ true → job_of j.id (behind S s j).jobs ≡ Some k
       → IsLow (behind S s j).running (switch_of (behind S s j)) k
-  own_low s j calls pays k own is = record {
+  own_low dispatch s j calls pays k own is = record {
     beneath = λ r runs other raised.
         clash
         (sym own
         ∙ ap (λ n. same_id k.id n)
         (some_inside j.id r (sym (behind_running S s j ∙ calls.runs) ∙ runs))
         ∙ other);
-    little = λ low counting.
+    little = λ m low counting.
         (let begin =
         pays.begins
         (subst (λ (n : JobId). priority_of S n.task < p) (same_ids k.id j.id own) low) in
-        let left : left_behind S p c s j ≡ c.of_job e k =
-        ap (left_of_own S p c (switch_of s) e) is
-        ∙ ap (λ b. cond b (c.of_job e k) (left_of_section c (switch_of s))) counting in
-        omega (arith, begin, left));
+        let left : left_behind S p c s j ≡ c.of_job there e k =
+        ap (left_of_own S p c (behind S s j).masks (switch_of s) e) is
+        ∙ ap (λ b. cond b (c.of_job there e k) (left_of_section c (switch_of s))) counting in
+        let same = dispatch.lower m there e k low in
+        omega (arith, begin, left, same));
   }
     where
       e : Switch
       e = switch_of (behind S s j)
+
+      there : ℕ
+      there = slice_index (behind S s j).masks k.id.task

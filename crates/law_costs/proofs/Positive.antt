@@ -1,6 +1,6 @@
 -- Where work stands, something is left.
 use Rattle.std.proofs.Common.{ℕ, zero, suc, ◌≡◌, ◌<◌, ◌≤◌, ◌⊎◌, inl, inr, Bool, true, false, cond, not, ◌&&◌, ◌||◌, nat_le, List, [], ◌∷◌, length, refl, sym, ◌∙◌, ap, subst, arith}
-use Rattle.std.specs.Prelude.{IfSome, Option, Some, None, is_some, ◌==◌, slice_index_or}
+use Rattle.std.specs.Prelude.{IfSome, Option, Some, None, is_some, ◌==◌, slice_index, slice_index_or}
 use Rattle.std.specs.List.{AllByRecursion, filter, list_any, sum_by}
 use Rattle.std.proofs.lemmas.Bool.{and_parts, cases_lt, eq-eqb, le-leb, leb-true}
 use Rattle.std.proofs.lemmas.List.Folds.{list_any-append}
@@ -132,22 +132,26 @@ module _ (S : System) (p : ℕ) (c : Weights) (known : Known) (stays : StaysKnow
       (in_below (length S.routines) found.place inside) found.raised (omega (arith, pay, cost)) in
       omega (arith, whole)
 
+  abbrev cost_of : Job → ℕ
+  cost_of j = c.of_job (slice_index s.masks j.id.task) (switch_for s j) j
+
   jobs_left : list_any (is_work S p) s.jobs ≡ true → 1 ≤ left S p c s
   jobs_left some =
       let count : list_any (λ j. counts S p (switch_for s j) j) s.jobs ≡ true =
       any_weaker (is_work S p) (λ j. counts S p (switch_for s j) j) s.jobs (work_counts S p s)
       some in
       let sum =
-      some_part (λ j. counts S p (switch_for s j) j) (λ j. c.of_job (switch_for s j) j)
+      some_part (λ j. counts S p (switch_for s j) j) (λ j. cost_of j)
       c.of_section s.jobs
       (all_weaker (λ j. IsKnownJob known (switch_for s j) j)
-      (λ j. counts S p (switch_for s j) j ≡ true → 1 ≤ c.of_job (switch_for s j) j) s.jobs
-      (λ j h is. something.job (switch_for s j) j h is) (known_jobs S known s form here.jobs))
+      (λ j. counts S p (switch_for s j) j ≡ true → 1 ≤ cost_of j) s.jobs
+      (λ j h is. something.job (slice_index s.masks j.id.task) (switch_for s j) j h is)
+      (known_jobs S known s form here.jobs))
       count in
       let whole =
       ap
       (λ b. cond b
-      (sum_by (part (λ j. counts S p (switch_for s j) j) (λ j. c.of_job (switch_for s j) j)
+      (sum_by (part (λ j. counts S p (switch_for s j) j) (λ j. cost_of j)
       c.of_section) s.jobs)
       c.of_section)
       count in

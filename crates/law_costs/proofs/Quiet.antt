@@ -1,6 +1,6 @@
 -- A state in which no work stands: what is left is that of a running job below the level.
 use Rattle.std.proofs.Common.{ℕ, ◌≡◌, ◌<◌, ◌≤◌, inl, inr, Bool, true, false, cond, not, ◌&&◌, ◌||◌, refl, sym, ◌∙◌, ap, arith}
-use Rattle.std.specs.Prelude.{Option, Some, None, is_some, nat_le}
+use Rattle.std.specs.Prelude.{Option, Some, None, is_some, nat_le, slice_index}
 use Rattle.std.specs.List.{AllByRecursion, list_any, sum_by}
 use Rattle.std.proofs.lemmas.Bool.{cases_lt, le-leb}
 use Rattle.osek_base.specs.Priority.{dynamic_priority}
@@ -64,8 +64,8 @@ none_counts_left S p c s quiet rests section =
     let active : left_of_active c (switch_of s) s.active ≡ 0 =
     ap (left_of_active c (switch_of s)) quiet.active in
     let pending = none_left S c s quiet.pending in
-    let none : left_of_jobs S p c (switch_for s) s.jobs ≡ c.of_section =
-    ap (λ b. cond b (sum_by (left_of_job S p c (switch_for s)) s.jobs) c.of_section)
+    let none : left_of_jobs S p c s.masks (switch_for s) s.jobs ≡ c.of_section =
+    ap (λ b. cond b (sum_by (left_of_job S p c s.masks (switch_for s)) s.jobs) c.of_section)
     (none_any (λ k. counts S p (switch_for s k) k) s.jobs
     (all_weaker (λ k. waits k ≡ true) (λ k. counts S p (switch_for s k) k ≡ false) s.jobs
     (λ k h.
@@ -87,10 +87,11 @@ module _ (S : System) (p : ℕ) (c : Weights) (s : State) (good : IsRunState S s
   is_lower = lower S p j ready (member (λ k. is_work S p k ≡ false) quiet.jobs)
 
   other_none : (k : Job) → is_work S p k ≡ false → IsLow S p c s.running (switch_for s k) k
-      → same_id k.id j.id ≡ false → left_of_job S p c (λ l. on) k ≡ 0
+      → same_id k.id j.id ≡ false → left_of_job S p c s.masks (λ l. on) k ≡ 0
   other_none k none h other = go (counts S p on k) refl
     where
-      go : (b : Bool) → counts S p on k ≡ b → cond b (c.of_job on k) 0 ≡ 0
+      go : (b : Bool) → counts S p on k ≡ b
+          → cond b (c.of_job (slice_index s.masks k.id.task) on k) 0 ≡ 0
       go false is = refl
       go true is =
           let parts = high_parts S p c k is in
@@ -102,23 +103,25 @@ module _ (S : System) (p : ℕ) (c : Weights) (s : State) (good : IsRunState S s
           absurd (omega (arith, beneath, own, high))
 
   -- nothing is left of the others
-  pub none_beside : left_of_others S p c j.id s.jobs ≡ 0
+  pub none_beside : left_of_others S p c s.masks j.id s.jobs ≡ 0
   none_beside =
-      sum_none (left_of_job S p c (λ l. on)) (λ k. same_id k.id j.id) s.jobs
+      sum_none (left_of_job S p c s.masks (λ l. on)) (λ k. same_id k.id j.id) s.jobs
       (all_weaker (λ k. (is_work S p k ≡ false) × IsLow S p c s.running (switch_for s k) k)
-      (λ k. same_id k.id j.id ≡ false → left_of_job S p c (λ l. on) k ≡ 0) s.jobs
+      (λ k. same_id k.id j.id ≡ false → left_of_job S p c s.masks (λ l. on) k ≡ 0) s.jobs
       (λ k h. other_none k h.0 h.1)
       (all_both (λ k. is_work S p k ≡ false) (λ k. IsLow S p c s.running (switch_for s k) k) s.jobs
       quiet.jobs low))
 
   -- and of it no more than may be where a window begins
-  own_little : of_found (left_of_job S p c (switch_for s)) (Some j) ≤ c.costs.at_begin
+  own_little : of_found (left_of_job S p c s.masks (switch_for s)) (Some j) ≤ c.costs.at_begin
   own_little = go (counts S p (switch_for s j) j) refl
     where
       go : (b : Bool) → counts S p (switch_for s j) j ≡ b
-          → cond b (c.of_job (switch_for s j) j) 0 ≤ c.costs.at_begin
+          → cond b (c.of_job (slice_index s.masks j.id.task) (switch_for s j) j) 0
+          ≤ c.costs.at_begin
       go false is = omega arith
-      go true is = (member (λ k. IsLow S p c s.running (switch_for s k) k) low).little is_lower is
+      go true is = (member (λ k. IsLow S p c s.running (switch_for s k) k) low).little
+          (slice_index s.masks j.id.task) is_lower is
 
   pub little_left : c.of_section ≤ c.costs.at_begin → left S p c s ≤ c.costs.at_begin
   little_left section =
@@ -129,14 +132,14 @@ module _ (S : System) (p : ℕ) (c : Weights) (s : State) (good : IsRunState S s
       omega (arith, active, pending, jobs)
     where
       go : (b : Bool)
-          → cond b (sum_by (left_of_job S p c (switch_for s)) s.jobs) c.of_section
+          → cond b (sum_by (left_of_job S p c s.masks (switch_for s)) s.jobs) c.of_section
           ≤ c.costs.at_begin
       go true =
           let whole = sum_is S p c s j.id runs good.single in
           let beside = none_beside in
           let own = own_little in
-          let same : of_found (left_of_job S p c (switch_for s)) (job_of j.id s.jobs)
-          ≡ of_found (left_of_job S p c (switch_for s)) (Some j) =
-          ap (of_found (left_of_job S p c (switch_for s))) there in
+          let same : of_found (left_of_job S p c s.masks (switch_for s)) (job_of j.id s.jobs)
+          ≡ of_found (left_of_job S p c s.masks (switch_for s)) (Some j) =
+          ap (of_found (left_of_job S p c s.masks (switch_for s))) there in
           omega (arith, whole, beside, own, same)
       go false = section

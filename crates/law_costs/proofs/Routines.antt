@@ -1,78 +1,88 @@
 -- An instruction of a routine takes one, by what it leaves of the routine and what it starts.
-use Rattle.std.proofs.Common.{ℕ, ◌≡◌, ◌≤◌, ◌+◌, false, List, ◌∷◌, refl, sym, ◌∙◌, ap, arith}
-use Rattle.std.specs.Prelude.{Option, Some, None, is_some, slice_index, slice_index_or, bit_or}
+use Rattle.std.proofs.Common.{ℕ, ◌≡◌, ◌≤◌, ◌+◌, false, [], ◌∷◌, refl, sym, ◌∙◌, ap, arith}
+use Rattle.std.specs.Prelude.{Option, Some, None, is_some, slice_index_or}
 use Rattle.std.specs.List.{sum_by}
 use Rattle.osek_base.specs.declared.ids.Owner.{Owner}
 use Rattle.osek_base.specs.declared.instr.Control.{Control}
 use Rattle.osek_base.specs.declared.instr.Instr.{Instr}
 use Rattle.osek_base.specs.declared.instr.Service.{Service}
 use Rattle.osek_base.specs.declared.status.Status.{Status}
+use Rattle.osek_base.specs.Activation.{is_full}
 use Rattle.osek_base.specs.Instruction.{Context}
 use Rattle.osek_base.specs.Service.{RoutineCalls, effect, first_refusal, refusals, reply_to, service}
-use Rattle.osek_base.specs.State.{Active, Job, State, interrupts_off}
+use Rattle.osek_base.specs.State.{Active, State, interrupts_off}
 use Rattle.osek_base.specs.System.{System, instruction_at}
 use Rattle.osek_base.specs.Tick.{at_values, caller_executes, caller_of, execute_phase, executed}
 use Rattle.osek_base.specs.Types.{ServiceCall}
 use Rattle.law_alarms.specs.Setting.{call_in}
 use Rattle.law_future.specs.Shown.{chosen_of}
+use Rattle.law_runs.proofs.Known.{all_passed, passed}
+use Rattle.law_runs.proofs.Lists.{clash}
 use Rattle.law_runs.proofs.RankedTick.{IsRunState}
 use Rattle.law_costs.specs.Left.{Weights, left, left_of_active, left_of_jobs, left_of_pending, switch_for, switch_of}
 use Rattle.law_costs.specs.Paying.{start_of}
 use Rattle.law_costs.specs.Routines.{TakesIn, started_by, started_where}
-use Rattle.law_costs.proofs.Starts.{StartsPay, activated_adds, set_adds}
+use Rattle.law_costs.proofs.Events.{room}
+use Rattle.law_costs.proofs.Starts.{StartsPay, activated_adds, may_set, set_adds}
 use Rattle.law_costs.proofs.Switches.{behind_routine, find_on}
 
-module _ (S : System) (p : ℕ) (c : Weights) (s : State) (starts : StartsPay S p c s.jobs)
+module _ (S : System) (p : ℕ) (c : Weights) (s : State) (starts : StartsPay S p c s)
     (good : IsRunState S s) (a : Active) (is : s.active ≡ Some a) where
-  abbrev now : List Job → ℕ
-  now jobs = left_of_jobs S p c (switch_for s) jobs
+  abbrev now : State → ℕ
+  now e = left_of_jobs S p c e.masks (switch_for s) e.jobs
 
-  effect_adds : (call : ServiceCall)
-      → now (effect S (RoutineCalls a) s call).jobs ≤ now s.jobs + start_of c call
-  effect_adds (Service.ActivateTask None) = omega arith
-  effect_adds (Service.ActivateTask (Some t)) = activated_adds S p c s starts good.single t
-  effect_adds Service.TerminateTask = omega arith
-  effect_adds (Service.ChainTask None) = omega arith
-  effect_adds (Service.ChainTask (Some t)) = activated_adds S p c s starts good.single t
-  effect_adds Service.Schedule = omega arith
-  effect_adds Service.GetTaskId = omega arith
-  effect_adds (Service.GetTaskState o) = omega arith
-  effect_adds (Service.GetResource None) = omega arith
-  effect_adds (Service.GetResource (Some r)) = omega arith
-  effect_adds (Service.ReleaseResource None) = omega arith
-  effect_adds (Service.ReleaseResource (Some r)) = omega arith
-  effect_adds (Service.LoadShared o i) = omega arith
-  effect_adds (Service.StoreShared None i v) = omega arith
-  effect_adds (Service.StoreShared (Some r) i v) = omega arith
-  effect_adds (Service.SetEvent None m) = omega arith
-  effect_adds (Service.SetEvent (Some t) m) =
-      set_adds S p c s starts good.single good.ordered.ranked.still good.ordered.ready t
-      (bit_or (slice_index s.masks t) m) m
-  effect_adds (Service.ClearEvent m) = omega arith
-  effect_adds (Service.GetEvent o) = omega arith
-  effect_adds (Service.WaitEvent m) = omega arith
-  effect_adds (Service.SetRelAlarm None x y) = omega arith
-  effect_adds (Service.SetRelAlarm (Some b) x y) = omega arith
-  effect_adds (Service.SetAbsAlarm None x y) = omega arith
-  effect_adds (Service.SetAbsAlarm (Some b) x y) = omega arith
-  effect_adds (Service.CancelAlarm None) = omega arith
-  effect_adds (Service.CancelAlarm (Some b)) = omega arith
-  effect_adds (Service.GetAlarm o) = omega arith
-  effect_adds (Service.GetAlarmBase o) = omega arith
+  effect_adds : (call : ServiceCall) → first_refusal (refusals S (RoutineCalls a) s call) ≡ None
+      → now (effect S (RoutineCalls a) s call) ≤ now s + start_of c call
+  effect_adds (Service.ActivateTask None) none = omega arith
+  effect_adds (Service.ActivateTask (Some t)) none =
+      activated_adds S p c s starts good.single t
+      (room S t s starts.proper (passed (is_full S s t) Status.Limit [] none).0)
+  effect_adds Service.TerminateTask none = omega arith
+  effect_adds (Service.ChainTask None) none = omega arith
+  effect_adds (Service.ChainTask (Some t)) none =
+      clash (all_passed (refusals S (RoutineCalls a) s (Service.ChainTask (Some t))) none).0
+  effect_adds Service.Schedule none = omega arith
+  effect_adds Service.GetTaskId none = omega arith
+  effect_adds (Service.GetTaskState o) none = omega arith
+  effect_adds (Service.GetResource None) none = omega arith
+  effect_adds (Service.GetResource (Some r)) none = omega arith
+  effect_adds (Service.ReleaseResource None) none = omega arith
+  effect_adds (Service.ReleaseResource (Some r)) none = omega arith
+  effect_adds (Service.LoadShared o i) none = omega arith
+  effect_adds (Service.StoreShared None i v) none = omega arith
+  effect_adds (Service.StoreShared (Some r) i v) none = omega arith
+  effect_adds (Service.SetEvent None m) none = omega arith
+  effect_adds (Service.SetEvent (Some t) m) none =
+      set_adds S p c s starts good.single good.ordered.ranked.still good.ordered.ready t m
+      (may_set S s t m (RoutineCalls a) none)
+  effect_adds (Service.ClearEvent m) none = omega arith
+  effect_adds (Service.GetEvent o) none = omega arith
+  effect_adds (Service.WaitEvent m) none = omega arith
+  effect_adds (Service.SetRelAlarm None x y) none = omega arith
+  effect_adds (Service.SetRelAlarm (Some b) x y) none = omega arith
+  effect_adds (Service.SetAbsAlarm None x y) none = omega arith
+  effect_adds (Service.SetAbsAlarm (Some b) x y) none = omega arith
+  effect_adds (Service.CancelAlarm None) none = omega arith
+  effect_adds (Service.CancelAlarm (Some b)) none = omega arith
+  effect_adds (Service.GetAlarm o) none = omega arith
+  effect_adds (Service.GetAlarmBase o) none = omega arith
 
   reply_adds : (call : ServiceCall) (o : Option Status)
-      → now (reply_to S (RoutineCalls a) s call o).state.jobs
-      ≤ now s.jobs + started_where c (reply_to S (RoutineCalls a) s call o).status call
-  reply_adds call None = effect_adds call
-  reply_adds call (Some refusal) = omega arith
+      → (o ≡ None → first_refusal (refusals S (RoutineCalls a) s call) ≡ None)
+      → now (reply_to S (RoutineCalls a) s call o).state
+      ≤ now s + started_where c (reply_to S (RoutineCalls a) s call o).status call
+  reply_adds call None none = effect_adds call (none refl)
+  reply_adds call (Some refusal) none = omega arith
 
   service_adds : (call : ServiceCall)
-      → now (service S (RoutineCalls a) s call).state.jobs
-      ≤ now s.jobs + started_where c (service S (RoutineCalls a) s call).status call
+      → now (service S (RoutineCalls a) s call).state
+      ≤ now s + started_where c (service S (RoutineCalls a) s call).status call
   unfolding service
   service_adds call =
       reply_adds call
       (first_refusal ((interrupts_off s, Status.SysDisabled) ∷ refusals S (RoutineCalls a) s call))
+      (λ none.
+      (passed (interrupts_off s) Status.SysDisabled (refusals S (RoutineCalls a) s call) none).1)
 
   -- ---- an instruction
 
@@ -81,7 +91,7 @@ module _ (S : System) (p : ℕ) (c : Weights) (s : State) (starts : StartsPay S 
     there what = (executed S who (RoutineCalls a) x what s).state
 
     jobs_add : (what : Instr)
-        → now (there what).jobs ≤ now s.jobs + started_by S c (RoutineCalls a) s (call_in x what)
+        → now (there what) ≤ now s + started_by S c (RoutineCalls a) s (call_in x what)
     jobs_add (Instr.Plain plain) = omega arith
     jobs_add (Instr.Service call) = service_adds (at_values x call)
     jobs_add (Instr.Control Control.DisableAllInterrupts) = omega arith
@@ -117,7 +127,7 @@ module _ (S : System) (p : ℕ) (c : Weights) (s : State) (starts : StartsPay S 
       ap (λ flags. sum_by c.costs.of_arrival (chosen_of S (λ i. slice_index_or flags i false)))
       (pending_stays owner a.context what) in
       let find =
-      ap (λ find. left_of_jobs S p c find behind.jobs)
+      ap (λ find. left_of_jobs S p c behind.masks find behind.jobs)
       (find_on S s a is owner a.context what ∙ sym (behind_routine s (ap is_some is))) in
       let jobs = jobs_add owner a.context what in
       omega (arith, same, take, active, pending, find, jobs)

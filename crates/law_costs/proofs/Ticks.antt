@@ -32,7 +32,8 @@ module _ (S : System) (p : ℕ) (c : Weights) (known : Known) (proper : IsProper
   alarms_add [] all s may = omega arith
   alarms_add (a ∷ due) all s may =
       let one =
-      action_adds S p c s (starts_pay S known p c starts s may) (alarm S a).action may.good in
+      action_adds S p c s (starts_pay S known p c proper starts s may) (alarm S a).action may.good
+      in
       let pay = coming.alarm a all.0 in
       let rest =
       alarms_add due all.1 (alarm_acts S a s).state

@@ -1,5 +1,5 @@
 -- Costs of jobs, by one inequality for each instruction of a known job.
-use Rattle.std.specs.Prelude.{ℕ, ◌+◌, ◌≡◌, ◌<◌, ◌≤◌, true, if◌then◌else◌, Option, Some, None}
+use Rattle.std.specs.Prelude.{ℕ, ◌+◌, ◌≡◌, ◌<◌, ◌≤◌, true, if◌then◌else◌, Option, Some, None, List, slice_index}
 use Rattle.osek_base.specs.Service.{JobCalls}
 use Rattle.osek_base.specs.State.{Job, State, job_of}
 use Rattle.osek_base.specs.System.{System, priority_of}
@@ -14,11 +14,12 @@ use Rattle.law_costs.specs.Routines.{started_by}
 abbrev pub left_of_section : Weights → Switch → ℕ
 left_of_section c before = if is_off before then c.of_section else 0
 
--- of a job behind its instruction, by the switch before and behind that: its cost, if it counts
-abbrev pub left_of_own : System → ℕ → Weights → Switch → Switch → Option Job → ℕ
-left_of_own S p c before w None = left_of_section c before
-left_of_own S p c before w (Some j) =
-    if counts S p w j then c.of_job w j else left_of_section c before
+-- of a job behind its instruction, by the events that are set behind that, and by the switch before
+-- and behind: its cost, if it counts
+abbrev pub left_of_own : System → ℕ → Weights → List ℕ → Switch → Switch → Option Job → ℕ
+left_of_own S p c masks before w None = left_of_section c before
+left_of_own S p c masks before w (Some j) =
+    if counts S p w j then c.of_job (slice_index masks j.id.task) w j else left_of_section c before
 
 -- the state behind an instruction that a job executes in a state, and what is left of it there
 abbrev pub behind : System → State → Job → State
@@ -26,7 +27,8 @@ behind S s j = behind_by S (JobCalls j) s
 
 abbrev pub left_behind : System → ℕ → Weights → State → Job → ℕ
 left_behind S p c s j =
-    left_of_own S p c (switch_of s) (switch_of (behind S s j)) (job_of j.id (behind S s j).jobs)
+    left_of_own S p c (behind S s j).masks (switch_of s) (switch_of (behind S s j))
+    (job_of j.id (behind S s j).jobs)
 
 -- what the instruction starts
 abbrev pub started : System → Weights → State → Job → ℕ
@@ -38,7 +40,8 @@ started S c s j = started_by S c (JobCalls j) s (call_by S (JobCalls j))
 pub record PaysIn (S : System) (p : ℕ) (c : Weights) (s : State) (j : Job) : Type 0 where
   -- one less at least, where the job counts
   pub takes : counts S p (switch_of s) j ≡ true
-      → left_behind S p c s j + (started S c s j + 1) ≤ c.of_job (switch_of s) j
+      → left_behind S p c s j + (started S c s j + 1)
+      ≤ c.of_job (slice_index s.masks j.id.task) (switch_of s) j
   -- no more than may be where a window begins, where its task is below the level
   pub begins : priority_of S j.id.task < p
       → left_behind S p c s j + started S c s j ≤ c.costs.at_begin

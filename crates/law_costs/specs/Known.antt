@@ -1,11 +1,13 @@
 -- Which jobs and routines runs come to, told by tests: what begins passes them, and what goes on.
 use Rattle.std.specs.Prelude.{ℕ, ◌≡◌, ◌<◌, Bool, true, false, List, IfSome, length}
+use Rattle.std.specs.List.{list_any}
 use Rattle.osek_base.specs.declared.arrivals.Arrival.{Arrival}
+use Rattle.osek_base.specs.declared.ids.ResId.{ResId}
 use Rattle.osek_base.specs.Activation.{new_job, woken}
 use Rattle.osek_base.specs.GoodState.{IsGood, IsShaped}
 use Rattle.osek_base.specs.Reschedule.{entered}
-use Rattle.osek_base.specs.Service.{Caller, JobCalls, NobodyCalls, RoutineCalls}
-use Rattle.osek_base.specs.State.{Active, Job, JobId, State, job_of, waits}
+use Rattle.osek_base.specs.Service.{Caller, JobCalls, NobodyCalls, RoutineCalls, caller_holds, caller_may_take, holds}
+use Rattle.osek_base.specs.State.{Active, Job, JobId, State, interrupts_off, job_of, waits}
 use Rattle.osek_base.specs.System.{System}
 use Rattle.osek_base.specs.Tick.{caller_executes, executor}
 use Rattle.law_blockers.specs.Steps.{step_at}
@@ -37,11 +39,18 @@ IsKnownCaller known w NobodyCalls = Unit {0}
 abbrev pub behind_by : System → Caller → State → State
 behind_by S who s = (caller_executes S who s).state
 
+-- with interrupts on nobody but the caller holds a resource that it may take
+abbrev pub ExcludesOthers : System → Caller → State → Type 0
+ExcludesOthers S who s =
+    interrupts_off s ≡ false → (r : ResId) → caller_may_take S who r ≡ true
+    → list_any (λ k. holds k r) s.jobs ≡ caller_holds who r
+
 -- that caller executes in a good state, and the run isn't over behind it
 pub record Executes (S : System) (who : Caller) (s : State) : Type 0 where
   pub good : IsGood S s
   pub shaped : IsShaped S s
   pub calls : executor s ≡ who
+  pub excludes : ExcludesOthers S who s
   pub goes_on : (behind_by S who s).over ≡ false
 
 -- ---- what is known stays known

@@ -1,5 +1,5 @@
 -- What is left of a level's work in a state, by costs of who executes as it stands.
-use Rattle.std.specs.Prelude.{ℕ, ◌+◌, Bool, false, not, ◌&&◌, ◌||◌, nat_le, nat_lt, if◌then◌else◌, List, Option, Some, None, is_some}
+use Rattle.std.specs.Prelude.{ℕ, ◌+◌, Bool, false, not, ◌&&◌, ◌||◌, nat_le, nat_lt, if◌then◌else◌, List, Option, Some, None, is_some, slice_index}
 use Rattle.std.specs.List.{list_any, sum_by}
 use Rattle.osek_base.specs.Blocker.{is_job}
 use Rattle.osek_base.specs.Priority.{dynamic_priority}
@@ -43,8 +43,9 @@ switch_for s j = if not (is_some s.active) && is_job s.running j.id then switch_
 pub record Weights : Type 0 where
   -- of the active routine
   pub of_active : Switch → Active → ℕ
-  -- of a job of the level; of a lower one, to the end of the section in which it is
-  pub of_job : Switch → Job → ℕ
+  -- of a job of the level, by the events that are set for its task; of a lower one, to the end of
+  -- the section in which it is
+  pub of_job : ℕ → Switch → Job → ℕ
   -- of an activation of a task, and of events that are set for one
   pub of_task : ℕ → ℕ
   pub of_event : ℕ → ℕ → ℕ
@@ -60,13 +61,15 @@ pub record Weights : Type 0 where
 abbrev pub counts : System → ℕ → Switch → Job → Bool
 counts S p w j = not (waits j) && (is_off w || nat_le p (dynamic_priority S j))
 
-abbrev pub left_of_job : System → ℕ → Weights → (Job → Switch) → Job → ℕ
-left_of_job S p c find j = if counts S p (find j) j then c.of_job (find j) j else 0
+-- by the events that are set, a mask a task
+abbrev pub left_of_job : System → ℕ → Weights → List ℕ → (Job → Switch) → Job → ℕ
+left_of_job S p c masks find j =
+    if counts S p (find j) j then c.of_job (slice_index masks j.id.task) (find j) j else 0
 
 -- of the jobs that count; where none does, of the section that the next dispatch may begin
-abbrev pub left_of_jobs : System → ℕ → Weights → (Job → Switch) → List Job → ℕ
-left_of_jobs S p c find jobs =
-    if list_any (λ j. counts S p (find j) j) jobs then sum_by (left_of_job S p c find) jobs
+abbrev pub left_of_jobs : System → ℕ → Weights → List ℕ → (Job → Switch) → List Job → ℕ
+left_of_jobs S p c masks find jobs =
+    if list_any (λ j. counts S p (find j) j) jobs then sum_by (left_of_job S p c masks find) jobs
     else c.of_section
 
 abbrev pub left_of_active : Weights → Switch → Option Active → ℕ
@@ -81,4 +84,4 @@ left_of_pending S c s = sum_by c.costs.of_arrival (chosen_of S (is_pending s))
 abbrev pub left : System → ℕ → Weights → State → ℕ
 left S p c s =
     left_of_active c (switch_of s) s.active
-    + (left_of_pending S c s + left_of_jobs S p c (switch_for s) s.jobs)
+    + (left_of_pending S c s + left_of_jobs S p c s.masks (switch_for s) s.jobs)

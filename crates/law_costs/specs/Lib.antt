@@ -5,3 +5,4 @@ pub mod Routines
 pub mod Jobs
 pub mod Setting
 pub mod Laws
+pub mod KnownTicks

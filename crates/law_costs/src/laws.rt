@@ -1,5 +1,6 @@
 //! The laws, one function each. The functions are empty: the clause is the law.
 
+ghost use Rattle.law_costs.specs.KnownTicks.{CostsBoundAtExpiries, CostsBoundAtKnownTicks};
 ghost use Rattle.law_costs.specs.Laws.{CostsBoundResponses, CostsFallByPhases, RunsAreKnown};
 
 /// Where what is known of jobs and routines stays known, who executes in each run is known.
@@ -18,4 +19,12 @@ pub fn costs_fall_by_phases()
 /// rules.
 pub fn costs_bound_responses()
     ensures { CostsBoundResponses }
+{}
+
+/// The same where expiries of alarms that only boot starts are counted by the known ticks that lie
+/// in a window, for each first tick before the end of the first round in which they come again; and
+/// where each such window has a number of ticks of its own, from known ticks alone.
+pub fn costs_bound_at_known_ticks()
+    ensures together { CostsBoundAtKnownTicks }
+    ensures one_by_one { CostsBoundAtExpiries }
 {}

@@ -16,7 +16,7 @@ use Rattle.law_windows.specs.Routines.{begun}
 use Rattle.law_costs.specs.Left.{on, switch_of}
 use Rattle.law_costs.specs.Known.{behind_by}
 use Rattle.law_nodes.specs.Laws.{ClosedTablesStayKnown, RunsAreTold}
-use Rattle.law_nodes.specs.Nodes.{Node, Standing, Table, covers, fresh_node, is_at, is_covered, is_told, of_job, of_routine, woken_node}
+use Rattle.law_nodes.specs.Nodes.{Node, Standing, Table, covers, fresh_node, is_at, is_covered, is_told, of_job, of_routine, with_awaited, woken_node}
 use Rattle.law_nodes.specs.Steps.{steps}
 use Rattle.law_nodes.proofs.Knowing.{AreValues}
 use Rattle.law_nodes.proofs.Sound.{steps_are_sound}
@@ -61,7 +61,7 @@ module _ (S : System) (table : Table) (closed : is_closed S table ≡ true) wher
       → is_told table (of_job on (new_job n)) ≡ true
   job_fresh n inside =
       told_covered table (of_job on (new_job n)) (fresh_node (Owner.Task n.task))
-      (is_at_of (of_job on (new_job n)) (replicate REGISTERS (Some 0)) fresh_values)
+      (is_at_of (of_job on (new_job n)) (replicate REGISTERS (Some 0)) 0 fresh_values)
       (one_below (λ t. is_covered table (fresh_node (Owner.Task t))) (length S.tasks) n.task inside
       (and_parts fresh_tasks fresh_routines fresh).0)
 
@@ -69,7 +69,7 @@ module _ (S : System) (table : Table) (closed : is_closed S table ≡ true) wher
       → is_told table (of_routine on (begun i)) ≡ true
   routine_fresh i inside =
       told_covered table (of_routine on (begun i)) (fresh_node (Owner.Routine i))
-      (is_at_of (of_routine on (begun i)) (replicate REGISTERS (Some 0)) fresh_values)
+      (is_at_of (of_routine on (begun i)) (replicate REGISTERS (Some 0)) 0 fresh_values)
       (one_below (λ k. is_covered table (fresh_node (Owner.Routine k))) (length S.routines) i inside
       (and_parts fresh_tasks fresh_routines fresh).1)
 
@@ -89,7 +89,7 @@ module _ (S : System) (table : Table) (closed : is_closed S table ≡ true) wher
           (not (is_some n.waits_for) || is_covered table (woken_node n)) on_in).1 in
           told_covered table (of_job on (woken j)) (woken_node n)
           (subst (λ m. is_at (woken_node m) (of_job on (woken j)) ≡ true) (sym is.0)
-          (is_at_of (of_job on (woken j)) n.registers is.1))
+          (is_at_of (of_job on (woken j)) n.registers (with_awaited n.used j.waits_for) is.1))
           (ap (λ b. not b || is_covered table (woken_node n))
           (sym (ap (λ (m : Node). is_some m.waits_for) is.0 ∙ waiting))
           ∙ wakes)

@@ -16,7 +16,7 @@ use Rattle.osek_base.specs.Types.{ServiceCall}
 use Rattle.law_runs.proofs.Known.{IsCaller, IsRunningCaller, executor_calls}
 use Rattle.law_runs.proofs.Lists.{all_weaker, clash, found}
 use Rattle.law_costs.specs.Left.{Switch, is_off, switch_of}
-use Rattle.law_costs.specs.Known.{Executes, behind_by}
+use Rattle.law_costs.specs.Known.{Executes, ExcludesOthers, behind_by}
 use Rattle.law_nodes.specs.Nodes.{Node, Table, is_at, is_told, of_job}
 use Rattle.law_nodes.specs.Services.{Nothing, answers, caller_by, refusals_of, replied, results_of, served, with_found}
 use Rattle.law_nodes.specs.Steps.{steps, steps_by}
@@ -30,7 +30,8 @@ use Rattle.law_nodes.proofs.Stepping.{plain_told, told_first}
 use Rattle.law_nodes.proofs.Telling.{job_tells, job_tells_running, told_each}
 
 module _ (S : System) (s : State) (j : Job) (calls : IsRunningCaller s j) (alone : IsAlone s j)
-    (registers : List (Option ℕ)) (all : AreValues registers j.context.registers) where
+    (excludes : ExcludesOthers S (JobCalls j) s) (registers : List (Option ℕ)) (used : ℕ)
+    (all : AreValues registers j.context.registers) where
   abbrev x : Context
   x = j.context
 
@@ -41,7 +42,7 @@ module _ (S : System) (s : State) (j : Job) (calls : IsRunningCaller s j) (alone
   w = switch_of s
 
   abbrev n : Node
-  n = node_of (of_job w j) registers
+  n = node_of (of_job w j) registers used
 
   abbrev At : Switch → Table → Job → Type 0
   At v table k = is_told table (of_job v k) ≡ true
@@ -61,7 +62,7 @@ module _ (S : System) (s : State) (j : Job) (calls : IsRunningCaller s j) (alone
       changes S s j alone (At w (replied S n call (Some refusal)))
       (job_moved (answered refusal Results.Nothing x))
       (told_first (of_job w (job_moved (answered refusal Results.Nothing x) j))
-      (slice_set registers 0 (Some (status_number refusal))) []
+      (slice_set registers 0 (Some (status_number refusal))) used []
       (answered_values refusal Nothing Results.Nothing tt registers x all))
   job_replied call None =
       subst
@@ -78,6 +79,7 @@ module _ (S : System) (s : State) (j : Job) (calls : IsRunningCaller s j) (alone
       (answered_context Status.Ok (results S s (at_values x call)) x)
       (with_found (results_of S who (caller_by who j.held) call)
       (slice_set registers 0 (Some (status_number Status.Ok))))
+      used
       (answered_values Status.Ok (results_of S who (caller_by who j.held) call)
       (results S s (at_values x call))
       (results_told S s who (caller_by who j.held) (job_tells_running S s j calls) x call)
@@ -105,9 +107,9 @@ module _ (S : System) (s : State) (j : Job) (calls : IsRunningCaller s j) (alone
       ((interrupts_off s, Status.SysDisabled) ∷ refusals S (JobCalls j) s (at_values x call)) (
         refl,
         refl,
-        refusals_told S s (caller_by who j.held) (JobCalls j) (job_tells S s j calls) x registers
-            all
-            call,
+        λ on.
+            refusals_told S s (caller_by who j.held) (JobCalls j)
+            (job_tells S s j calls excludes) x registers all on call,
       )
       (h own))
       (job_replied call refusal)
@@ -122,11 +124,11 @@ module _ (S : System) (s : State) (j : Job) (calls : IsRunningCaller s j) (alone
   abbrev e : Instr → State
   e what = (executed S who (JobCalls j) x what s).state
 
-  moves : (v : Switch) → Own v (node_of (of_job v (job_moved (next x) j)) registers ∷ [])
+  moves : (v : Switch) → Own v (node_of (of_job v (job_moved (next x) j)) registers used ∷ [])
       (with_job j.id (job_moved (next x)) s.jobs)
   moves v =
-      changes S s j alone (At v (node_of (of_job v (job_moved (next x) j)) registers ∷ []))
-      (job_moved (next x)) (told_first (of_job v (job_moved (next x) j)) registers [] all)
+      changes S s j alone (At v (node_of (of_job v (job_moved (next x) j)) registers used ∷ []))
+      (job_moved (next x)) (told_first (of_job v (job_moved (next x) j)) registers used [] all)
 
   pub own_told : (what : Instr) → (e what).over ≡ false
       → Own (switch_of (e what)) (steps_by S what n) (e what).jobs
@@ -134,7 +136,7 @@ module _ (S : System) (s : State) (j : Job) (calls : IsRunningCaller s j) (alone
   own_told (Instr.Plain what) goes_on =
       changes S s j alone (At w (steps_by S (Instr.Plain what) n))
       (job_moved (plain what x (s.words who)).context)
-      (plain_told (of_job w j) registers all (s.words who) what)
+      (plain_told (of_job w j) registers used all (s.words who) what)
   own_told (Instr.Service call) goes_on = served_told call
   own_told (Instr.Control Control.DisableAllInterrupts) goes_on =
       moves (switch_of (e (Instr.Control Control.DisableAllInterrupts)))
@@ -161,21 +163,21 @@ module _ (S : System) (s : State) (j : Job) (executes : Executes S (JobCalls j) 
   calls_job : IsRunningCaller s j
   calls_job = subst (IsCaller s) executes.calls (executor_calls s)
 
-  all_told : (registers : List (Option ℕ)) → AreValues registers j.context.registers
+  all_told : (registers : List (Option ℕ)) (used : ℕ) → AreValues registers j.context.registers
       → AllByRecursion
-      (IsOwn (λ k. is_told (steps S (node_of (of_job (switch_of s) j) registers))
+      (IsOwn (λ k. is_told (steps S (node_of (of_job (switch_of s) j) registers used))
       (of_job (switch_of behind) k) ≡ true) j.id) behind.jobs
-  all_told registers all =
+  all_told registers used all =
       let alone = caller_alone S s j executes.good calls_job in
       subst
       (λ o. AllByRecursion
       (IsOwn (λ k. is_told
       (cond (is_some o) []
       (steps_by S (instruction_at S (Owner.Task j.id.task) j.context.place)
-      (node_of (of_job (switch_of s) j) registers)))
+      (node_of (of_job (switch_of s) j) registers used)))
       (of_job (switch_of behind) k) ≡ true) j.id) behind.jobs)
       (sym alone.ready)
-      (own_told S s j calls_job alone registers all
+      (own_told S s j calls_job alone executes.excludes registers used all
       (instruction_at S (Owner.Task j.id.task) j.context.place) executes.goes_on)
 
   pub job_sound : (n : Node) → is_at n (of_job (switch_of s) j) ≡ true
@@ -190,13 +192,13 @@ module _ (S : System) (s : State) (j : Job) (executes : Executes S (JobCalls j) 
     where
       go : (o : Option Job) → job_of j.id behind.jobs ≡ o
           → AreValues n.registers j.context.registers
-          → IfSome o (λ k. is_told (steps S (node_of (of_job (switch_of s) j) n.registers))
+          → IfSome o (λ k. is_told (steps S (node_of (of_job (switch_of s) j) n.registers n.used))
           (of_job (switch_of behind) k) ≡ true)
       go None there all = tt
       go (Some k) there all =
           let both =
           found
-          (IsOwn (λ l. is_told (steps S (node_of (of_job (switch_of s) j) n.registers))
+          (IsOwn (λ l. is_told (steps S (node_of (of_job (switch_of s) j) n.registers n.used))
           (of_job (switch_of behind) l) ≡ true) j.id)
-          (λ l. same_id l.id j.id) behind.jobs k (all_told n.registers all) there in
+          (λ l. same_id l.id j.id) behind.jobs k (all_told n.registers n.used all) there in
           both.0 both.1

@@ -1,8 +1,9 @@
 -- What a job becomes by a service that isn't refused is told.
 use Rattle.std.proofs.Common.{◌≡◌, ℕ, Bool, true, false, cond, not, List, [], ◌∷◌, ◌++◌, map, refl, sym, ◌∙◌, ap, subst, arith}
-use Rattle.std.specs.Prelude.{Option, Some, None, slice_index, bit_or}
+use Rattle.std.specs.Prelude.{Option, Some, None, slice_index, bit_and, bit_or, bit_xor}
 use Rattle.std.specs.List.{AllByRecursion, filter}
 use Rattle.std.proofs.lemmas.Bool.{not-true}
+use Rattle.osek_base.specs.declared.ids.Owner.{Owner}
 use Rattle.osek_base.specs.declared.instr.Service.{Service}
 use Rattle.osek_base.specs.Activation.{activated, new_job, released, woken}
 use Rattle.osek_base.specs.Instruction.{Context}
@@ -15,7 +16,7 @@ use Rattle.law_runs.proofs.Foremost.{same_ids}
 use Rattle.law_runs.proofs.Lists.{all_append, all_filter, all_kept, all_map, all_weaker, clash, cond_case}
 use Rattle.law_costs.specs.Left.{Switch}
 use Rattle.law_nodes.specs.Nodes.{Node, Table, is_told, of_job}
-use Rattle.law_nodes.specs.Services.{job_granted}
+use Rattle.law_nodes.specs.Services.{job_granted, set_by}
 use Rattle.law_nodes.proofs.Knowing.{AreValues}
 use Rattle.law_nodes.proofs.Owning.{IsAlone, IsOwn, own_changed}
 use Rattle.law_nodes.proofs.Standing.{node_of}
@@ -97,10 +98,10 @@ module _ (S : System) (s : State) (j : Job) (alone : IsAlone s j) (Q : Job → T
 -- ---- services
 
 module _ (S : System) (s : State) (j : Job) (alone : IsAlone s j) (w : Switch) (x y : Context)
-    (registers : List (Option ℕ)) (all : AreValues registers y.registers) where
+    (registers : List (Option ℕ)) (used : ℕ) (all : AreValues registers y.registers) where
   -- the node once that is answered
   abbrev m : Node
-  m = node_of (of_job w (job_moved y j)) registers
+  m = node_of (of_job w (job_moved y j)) registers used
 
   abbrev At : Table → Job → Type 0
   At table k = is_told table (of_job w (job_moved y k)) ≡ true
@@ -109,7 +110,7 @@ module _ (S : System) (s : State) (j : Job) (alone : IsAlone s j) (w : Switch) (
   Granted call jobs = AllByRecursion (IsOwn (At (job_granted call m)) j.id) jobs
 
   itself : (rest : Table) → At (m ∷ rest) j
-  itself rest = told_first (of_job w (job_moved y j)) registers rest all
+  itself rest = told_first (of_job w (job_moved y j)) registers used rest all
 
   only_itself : AllByRecursion (IsOwn (At (m ∷ [])) j.id) s.jobs
   only_itself = stays S s j alone (At (m ∷ [])) (itself [])
@@ -125,12 +126,14 @@ module _ (S : System) (s : State) (j : Job) (alone : IsAlone s j) (w : Switch) (
       (cond b s (record s { jobs = with_job j.id (waiting_for events) s.jobs })).jobs
   awaited_told events true =
       stays S s j alone (At (job_granted (Service.WaitEvent events) m))
-      (itself (record m { waits_for = Some events } ∷ []))
+      (told_first (of_job w (job_moved y j)) registers (bit_or used events)
+      (record m { waits_for = Some events } ∷ []) all)
   awaited_told events false =
       changes S s j alone (At (job_granted (Service.WaitEvent events) m)) (waiting_for events)
-      (told_later (of_job w (job_moved y (waiting_for events j))) m
+      (told_later (of_job w (job_moved y (waiting_for events j)))
+      (record m { used = bit_or used events })
       (record m { waits_for = Some events } ∷ [])
-      (told_first (of_job w (job_moved y (waiting_for events j))) registers [] all))
+      (told_first (of_job w (job_moved y (waiting_for events j))) registers used [] all))
 
   pub granted_told : (call : ServiceCall)
       → Granted call (effect S (JobCalls j) s (at_values x call)).jobs
@@ -147,17 +150,22 @@ module _ (S : System) (s : State) (j : Job) (alone : IsAlone s j) (w : Switch) (
   granted_told (Service.GetResource None) = only_itself
   granted_told (Service.GetResource (Some r)) =
       changes S s j alone (At (job_granted (Service.GetResource (Some r)) m)) (gets r)
-      (told_first (of_job w (job_moved y (gets r j))) registers [] all)
+      (told_first (of_job w (job_moved y (gets r j))) registers used [] all)
   granted_told (Service.ReleaseResource None) = only_itself
   granted_told (Service.ReleaseResource (Some r)) =
       changes S s j alone (At (job_granted (Service.ReleaseResource (Some r)) m)) releases
-      (told_first (of_job w (job_moved y (releases j))) registers [] all)
+      (told_first (of_job w (job_moved y (releases j))) registers used [] all)
   granted_told (Service.LoadShared o i) = only_itself
   granted_told (Service.StoreShared None i v) = only_itself
   granted_told (Service.StoreShared (Some r) i v) = only_itself
   granted_told (Service.SetEvent None e) = only_itself
-  granted_told (Service.SetEvent (Some t) e) = sets S s j alone (At (m ∷ [])) t e (itself [])
-  granted_told (Service.ClearEvent e) = only_itself
+  granted_told (Service.SetEvent (Some t) e) =
+      sets S s j alone (At (job_granted (Service.SetEvent (Some t) e) m)) t e
+      (told_first (of_job w (job_moved y j)) registers
+      (set_by (Owner.Task j.id.task) t e used) [] all)
+  granted_told (Service.ClearEvent e) =
+      stays S s j alone (At (job_granted (Service.ClearEvent e) m))
+      (told_first (of_job w (job_moved y j)) registers (bit_xor used (bit_and used e)) [] all)
   granted_told (Service.GetEvent o) = only_itself
   granted_told (Service.WaitEvent e) =
       awaited_told e (meets e (slice_index s.masks j.id.task))

@@ -1,25 +1,28 @@
 -- What passes of each outcome at a node passes of that of a job's instruction.
 use Rattle.std.proofs.Common.{◌≡◌, ℕ, Bool, true, false, List, ◌∷◌, refl, ◌∙◌, ap}
-use Rattle.std.specs.Prelude.{Option, Some}
+use Rattle.std.specs.Prelude.{Option, Some, slice_index}
 use Rattle.std.specs.List.{AllByRecursion}
 use Rattle.osek_base.specs.declared.ids.Owner.{Owner}
 use Rattle.osek_base.specs.declared.instr.Instr.{Instr}
 use Rattle.osek_base.specs.declared.status.Status.{Status}
 use Rattle.osek_base.specs.Instruction.{Context}
 use Rattle.osek_base.specs.Service.{JobCalls, answer, first_refusal, refusals, service}
-use Rattle.osek_base.specs.State.{Job, State, interrupts_off}
+use Rattle.osek_base.specs.State.{Job, State, interrupts_off, waits}
 use Rattle.osek_base.specs.System.{System}
 use Rattle.osek_base.specs.Tick.{at_values, executed}
 use Rattle.osek_base.specs.Types.{ServiceCall}
 use Rattle.law_alarms.specs.Setting.{call_in}
+use Rattle.law_costs.specs.Known.{ExcludesOthers}
 use Rattle.law_costs.specs.Left.{Switch, Weights, is_off, switch_of}
 use Rattle.law_costs.specs.Routines.{started_by, started_where}
 use Rattle.law_runs.proofs.Known.{IsRunningCaller}
+use Rattle.law_nodes.specs.Early.{awaited}
 use Rattle.law_nodes.specs.Nodes.{Node, Table, is_told, of_job}
 use Rattle.law_nodes.specs.Prices.{all_outcomes}
 use Rattle.law_nodes.specs.Services.{caller_by, refusals_of, replied}
 use Rattle.law_nodes.specs.Steps.{steps_by}
 use Rattle.law_nodes.proofs.Executing.{job_replied, own_told}
+use Rattle.law_nodes.proofs.Gains.{LeavesHeld, control_held, plain_held, replied_held}
 use Rattle.law_nodes.proofs.Knowing.{AreValues}
 use Rattle.law_nodes.proofs.Owning.{IsAlone, IsOwn}
 use Rattle.law_nodes.proofs.Refusing.{refusals_told}
@@ -27,15 +30,20 @@ use Rattle.law_nodes.proofs.Standing.{node_of}
 use Rattle.law_nodes.proofs.Telling.{job_tells}
 use Rattle.law_nodes.proofs.Starting.{all_first, started_same}
 
--- steps that pass with what is started, and the job is at one of them, if it is still there
+-- steps that pass with what is started, and the job is at one of them, if it is still there; where
+-- it doesn't wait, its events hold no more there
 pub record JobOutcome (pays : Table → ℕ → Bool) (v : Switch) (j : Job) (started : ℕ)
-    (jobs : List Job) : Type 0 where
+    (what : Instr) (before used : ℕ) (e : State) : Type 0 where
   pub next : Table
   pub paid : pays next started ≡ true
-  pub own : AllByRecursion (IsOwn (λ k. is_told next (of_job v k) ≡ true) j.id) jobs
+  pub own : AllByRecursion (IsOwn (λ k. is_told next (of_job v k) ≡ true) j.id) e.jobs
+  pub held : (AllByRecursion (IsOwn (λ k. waits k ≡ true) j.id) e.jobs → ⊥)
+      → AllByRecursion
+      (LeavesHeld (awaited what) before (slice_index e.masks j.id.task) used) next
 
 module _ (S : System) (s : State) (j : Job) (calls : IsRunningCaller s j) (alone : IsAlone s j)
-    (registers : List (Option ℕ)) (all : AreValues registers j.context.registers) (c : Weights)
+    (excludes : ExcludesOthers S (JobCalls j) s) (registers : List (Option ℕ)) (used : ℕ)
+    (all : AreValues registers j.context.registers) (c : Weights)
     (pays : Table → ℕ → Bool) where
   abbrev x : Context
   x = j.context
@@ -44,15 +52,15 @@ module _ (S : System) (s : State) (j : Job) (calls : IsRunningCaller s j) (alone
   who = Owner.Task j.id.task
 
   abbrev n : Node
-  n = node_of (of_job (switch_of s) j) registers
+  n = node_of (of_job (switch_of s) j) registers used
 
   abbrev e : Instr → State
   e what = (executed S who (JobCalls j) x what s).state
 
   abbrev Outcome : Instr → Type 0
   Outcome what =
-      JobOutcome pays (switch_of (e what)) j (started_by S c (JobCalls j) s (call_in x what))
-      (e what).jobs
+      JobOutcome pays (switch_of (e what)) j (started_by S c (JobCalls j) s (call_in x what)) what
+      (slice_index s.masks j.id.task) used (e what)
 
   service_outcome : (call : ServiceCall) → all_outcomes S c pays (Instr.Service call) n ≡ true
       → Outcome (Instr.Service call)
@@ -68,11 +76,13 @@ module _ (S : System) (s : State) (j : Job) (calls : IsRunningCaller s j) (alone
         ((interrupts_off s, Status.SysDisabled) ∷ refusals S (JobCalls j) s (at_values x call)) (
           refl,
           refl,
-          refusals_told S s (caller_by who j.held) (JobCalls j) (job_tells S s j calls) x registers
-              all call,
+          λ on.
+              refusals_told S s (caller_by who j.held) (JobCalls j)
+              (job_tells S s j calls excludes) x registers all on call,
         )
         passes;
-    own = job_replied S s j calls alone registers all call refusal;
+    own = job_replied S s j calls alone excludes registers used all call refusal;
+    held = replied_held S s j calls alone registers used call refusal;
   }
     where
       refusal : Option Status
@@ -85,11 +95,13 @@ module _ (S : System) (s : State) (j : Job) (calls : IsRunningCaller s j) (alone
   job_outcome (Instr.Plain what) goes_on passes = record {
     next = steps_by S (Instr.Plain what) n;
     paid = passes;
-    own = own_told S s j calls alone registers all (Instr.Plain what) goes_on;
+    own = own_told S s j calls alone excludes registers used all (Instr.Plain what) goes_on;
+    held = λ awake. plain_held S s j calls alone registers used what;
   }
   job_outcome (Instr.Service call) goes_on passes = service_outcome call passes
   job_outcome (Instr.Control control) goes_on passes = record {
     next = steps_by S (Instr.Control control) n;
     paid = passes;
-    own = own_told S s j calls alone registers all (Instr.Control control) goes_on;
+    own = own_told S s j calls alone excludes registers used all (Instr.Control control) goes_on;
+    held = λ awake. control_held S s j calls alone registers used control;
   }

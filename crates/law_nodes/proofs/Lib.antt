@@ -11,6 +11,10 @@ pub mod Executing
 pub mod Returning
 pub mod Sound
 pub mod Closing
+pub mod Masks
+pub mod MaskSums
+pub mod Gains
+pub mod EarlyLemmas
 pub mod Pricing
 pub mod Starting
 pub mod JobOutcomes
@@ -19,3 +23,4 @@ pub mod Paying
 pub mod WorkedLemmas
 pub mod Setting
 pub mod Paid
+pub mod AtKnownTicks

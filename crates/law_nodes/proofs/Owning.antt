@@ -1,7 +1,7 @@
 -- The job that calls in a good state: it is the only one of its id, and doesn't wait.
-use Rattle.std.proofs.Common.{◌≡◌, ℕ, zero, suc, ◌<◌, Bool, true, false, cond, ◌||◌, List, [], ◌∷◌, refl, sym, ◌∙◌, ap, arith}
+use Rattle.std.proofs.Common.{◌≡◌, ℕ, zero, suc, ◌<◌, Bool, true, false, cond, List, [], ◌∷◌, refl, sym, ◌∙◌, ap, arith}
 use Rattle.std.specs.Prelude.{Option, Some, None, is_some, slice_get, slice_index}
-use Rattle.std.specs.List.{AllByRecursion, filter, find, list_any}
+use Rattle.std.specs.List.{AllByRecursion, filter, find}
 use Rattle.osek_base.specs.GoodState.{IsGood}
 use Rattle.osek_base.specs.Lists.{is_empty}
 use Rattle.osek_base.specs.State.{Job, JobId, State, same_id, with_job}
@@ -9,7 +9,6 @@ use Rattle.osek_base.specs.System.{System}
 use Rattle.law_runs.proofs.Foremost.{same_ids}
 use Rattle.law_runs.proofs.Known.{IsRunningCaller}
 use Rattle.law_runs.proofs.Lists.{all_map, clash, some_inside}
-use Rattle.law_nodes.proofs.Tests.{first_of, second_of}
 
 -- what holds of each job of an id
 abbrev pub IsOwn : (Job → Type 0) → JobId → Job → Type 0
@@ -47,18 +46,6 @@ module _ {X : Type 0} where
           → (i : ℕ) × (slice_get (y ∷ xs) i ≡ Some x)
       go true k rest = (zero, k)
       go false k rest = let there = rest k in (suc there.0, there.1)
-
-  pub any_found : (p test : X → Bool) (xs : List X) (x : X) → find test xs ≡ Some x
-      → p x ≡ true → list_any p xs ≡ true
-  any_found p test [] x h passes = absurd (grind arith)
-  any_found p test (y ∷ xs) x h passes = go (test y) h (any_found p test xs x)
-    where
-      go : (b : Bool) → cond b (Some y) (find test xs) ≡ Some x
-          → (find test xs ≡ Some x → p x ≡ true → list_any p xs ≡ true)
-          → (p y || list_any p xs) ≡ true
-      go true k rest =
-          first_of (p y) (list_any p xs) (ap p (some_inside y x k) ∙ passes)
-      go false k rest = second_of (p y) (list_any p xs) (rest k passes)
 
   pub some_kept : (p test : X → Bool) (xs : List X) (x : X) → find test xs ≡ Some x
       → p x ≡ true → is_empty (filter p xs) ≡ false

@@ -2,16 +2,18 @@
 use Rattle.std.proofs.Common.{◌≡◌, ℕ, Bool, true, false, cond, not, ◌&&◌, ◌||◌, nat_le, List, [], ◌∷◌, refl, sym, ◌∙◌, ap}
 use Rattle.std.specs.Prelude.{Option, Some, None}
 use Rattle.std.specs.List.{list_any}
+use Rattle.std.proofs.lemmas.Bool.{not-false}
 use Rattle.osek_base.specs.declared.ids.ResId.{ResId}
 use Rattle.osek_base.specs.declared.instr.Service.{Service}
 use Rattle.osek_base.specs.declared.status.Status.{Status}
 use Rattle.osek_base.specs.Activation.{is_full}
 use Rattle.osek_base.specs.Instruction.{Context, value}
-use Rattle.osek_base.specs.Service.{Caller, by_routine, caller_holds, caller_may_take, first_refusal, got_last, holds, holds_any, is_above_ceiling, is_basic_caller, is_own_task, is_suspended, refusals}
-use Rattle.osek_base.specs.State.{State}
+use Rattle.osek_base.specs.Service.{Caller, by_routine, caller_holds, caller_may_take, first_refusal, got_last, holds_any, is_above_ceiling, is_basic_caller, is_own_task, is_suspended, refusals}
+use Rattle.osek_base.specs.State.{State, interrupts_off}
 use Rattle.osek_base.specs.System.{System, activation_of}
 use Rattle.osek_base.specs.Tick.{at_values}
 use Rattle.osek_base.specs.Types.{ServiceCall}
+use Rattle.law_costs.specs.Known.{ExcludesOthers}
 use Rattle.law_nodes.specs.Services.{at_least, at_most, first_refusals, is_bad_increment, is_bad_start, refusals_of}
 use Rattle.law_nodes.specs.Values.{known, of_known}
 use Rattle.law_nodes.proofs.Tests.{first_of, second_of}
@@ -19,9 +21,10 @@ use Rattle.law_nodes.proofs.Knowing.{AreValues, IsValue, of_known_is, value_know
 
 -- ---- refusals and what is told of them
 
+-- each is told where none before it applies
 abbrev pub AreTold : List (Option Bool × Status) → List (Bool × Status) → Type 0
 AreTold [] [] = Unit {0}
-AreTold (t ∷ ts) (r ∷ rs) = IsValue t.0 r.0 × (t.1 ≡ r.1) × AreTold ts rs
+AreTold (t ∷ ts) (r ∷ rs) = IsValue t.0 r.0 × (t.1 ≡ r.1) × (r.0 ≡ false → AreTold ts rs)
 AreTold _ _ = ⊥
 
 module _ (passes : Option Status → Bool) where
@@ -31,22 +34,24 @@ module _ (passes : Option Status → Bool) where
   first_told [] [] told h = first_of (passes None) false h
   first_told [] (r ∷ rs) told h = absurd told
   first_told (t ∷ ts) [] told h = absurd told
-  first_told ((None, e) ∷ ts) ((b, f) ∷ rs) told h = go b h (first_told ts rs told.2)
+  first_told ((None, e) ∷ ts) ((b, f) ∷ rs) told h =
+      go b h (λ passed. first_told ts rs (told.2 passed))
     where
       go : (b : Bool) → passes (cond b (Some f) (first_refusal rs)) ≡ true
-          → (passes (first_refusal rs) ≡ true → list_any passes (first_refusals ts) ≡ true)
+          → (b ≡ false → passes (first_refusal rs) ≡ true
+          → list_any passes (first_refusals ts) ≡ true)
           → (passes (Some e) || list_any passes (first_refusals ts)) ≡ true
       go true k rest =
           first_of (passes (Some e)) (list_any passes (first_refusals ts))
           (ap (λ s. passes (Some s)) told.1 ∙ k)
       go false k rest =
-          second_of (passes (Some e)) (list_any passes (first_refusals ts)) (rest k)
+          second_of (passes (Some e)) (list_any passes (first_refusals ts)) (rest refl k)
   first_told ((Some true, e) ∷ ts) ((b, f) ∷ rs) told h =
       first_of (passes (Some e)) false
       (ap (λ s. passes (Some s)) told.1
       ∙ ap (λ c. passes (cond c (Some f) (first_refusal rs))) told.0 ∙ h)
   first_told ((Some false, e) ∷ ts) ((b, f) ∷ rs) told h =
-      first_told ts rs told.2
+      first_told ts rs (told.2 (sym told.0))
       (ap (λ c. passes (cond c (Some f) (first_refusal rs))) told.0 ∙ h)
 
 -- ---- tests of a caller
@@ -61,8 +66,8 @@ pub record TellsOf (S : System) (s : State) (c who : Caller) : Type 0 where
   pub above : (r : ResId) → is_above_ceiling S c r ≡ is_above_ceiling S who r
   pub last : (r : ResId) → got_last c r ≡ got_last who r
   pub held : (r : ResId) → caller_holds c r ≡ caller_holds who r
-  -- what it holds is held, and its task has a job, as many as it may where that is one
-  pub holding : (r : ResId) → caller_holds c r ≡ true → list_any (λ j. holds j r) s.jobs ≡ true
+  -- nobody else holds what it may take; its task has a job, as many as it may where that is one
+  pub alone : ExcludesOthers S c s
   pub there : (t : ℕ) → is_own_task c t ≡ true → is_suspended s t ≡ false
   pub full : (t : ℕ) → (is_own_task c t && nat_le (activation_of S t) 1) ≡ true
       → is_full S s t ≡ true
@@ -92,62 +97,64 @@ module _ (S : System) (s : State) (c who : Caller) (tells : TellsOf S s c who) (
   is_there : (t : ℕ) → IsValue (at_most (not (is_own_task c t))) (is_suspended s t)
   is_there t = at_most_is (is_own_task c t) (is_suspended s t) (tells.there t)
 
-  pub refusals_told : (call : ServiceCall)
+  pub refusals_told : interrupts_off s ≡ false → (call : ServiceCall)
       → AreTold (refusals_of S c registers call) (refusals S who s (at_values x call))
-  refusals_told (Service.ActivateTask None) = (refl, refl, tt)
-  refusals_told (Service.ActivateTask (Some t)) = (
+  refusals_told on (Service.ActivateTask None) = (refl, refl, λ _. tt)
+  refusals_told on (Service.ActivateTask (Some t)) = (
     at_least_is (is_own_task c t && nat_le (activation_of S t) 1) (is_full S s t)
         (tells.full t),
     refl,
-    tt,
+    λ _. tt,
   )
-  refusals_told Service.TerminateTask = (tells.routine, refl, (tells.any, refl, tt))
-  refusals_told (Service.ChainTask None) = (tells.routine, refl, (refl, refl, tt))
-  refusals_told (Service.ChainTask (Some t)) =
-      (tells.routine, refl, (tells.any, refl, (chain_limit t, refl, tt)))
-  refusals_told Service.Schedule = (tells.routine, refl, (tells.any, refl, tt))
-  refusals_told Service.GetTaskId = tt
-  refusals_told (Service.GetTaskState None) = (refl, refl, tt)
-  refusals_told (Service.GetTaskState (Some t)) = tt
-  refusals_told (Service.GetResource None) = (refl, refl, tt)
-  refusals_told (Service.GetResource (Some r)) = (
+  refusals_told on Service.TerminateTask = (tells.routine, refl, λ _. (tells.any, refl, λ _. tt))
+  refusals_told on (Service.ChainTask None) = (tells.routine, refl, λ _. (refl, refl, λ _. tt))
+  refusals_told on (Service.ChainTask (Some t)) =
+      (tells.routine, refl, λ _. (tells.any, refl, λ _. (chain_limit t, refl, λ _. tt)))
+  refusals_told on Service.Schedule = (tells.routine, refl, λ _. (tells.any, refl, λ _. tt))
+  refusals_told on Service.GetTaskId = tt
+  refusals_told on (Service.GetTaskState None) = (refl, refl, λ _. tt)
+  refusals_told on (Service.GetTaskState (Some t)) = tt
+  refusals_told on (Service.GetResource None) = (refl, refl, λ _. tt)
+  refusals_told on (Service.GetResource (Some r)) = (
     tells.routine,
     refl,
-    (
+    λ _. (
       ap not (tells.take r),
       refl,
-      (
-        at_least_is (caller_holds c r) (list_any (λ j. holds j r) s.jobs) (tells.holding r),
+      λ listed. (
+        sym
+            (tells.alone on r
+            (tells.take r ∙ not-false (caller_may_take S who r) listed)),
         refl,
-        tt,
+        λ _. tt,
       ),
     ),
   )
-  refusals_told (Service.ReleaseResource None) = (refl, refl, tt)
-  refusals_told (Service.ReleaseResource (Some r)) =
-      (tells.routine, refl, (tells.above r, refl, (ap not (tells.last r), refl, tt)))
-  refusals_told (Service.LoadShared None i) = (refl, refl, tt)
-  refusals_told (Service.LoadShared (Some r) i) =
-      (tells.routine, refl, (refl, refl, (ap not (tells.held r), refl, tt)))
-  refusals_told (Service.StoreShared None i v) = (refl, refl, tt)
-  refusals_told (Service.StoreShared (Some r) i v) =
-      (tells.routine, refl, (refl, refl, (ap not (tells.held r), refl, tt)))
-  refusals_told (Service.SetEvent None m) = (refl, refl, tt)
-  refusals_told (Service.SetEvent (Some t) m) = (refl, refl, (is_there t, refl, tt))
-  refusals_told (Service.ClearEvent m) = (tells.routine, refl, (tells.basic, refl, tt))
-  refusals_told (Service.GetEvent None) = (refl, refl, tt)
-  refusals_told (Service.GetEvent (Some t)) = (refl, refl, (is_there t, refl, tt))
-  refusals_told (Service.WaitEvent m) =
-      (tells.routine, refl, (tells.basic, refl, (tells.any, refl, tt)))
-  refusals_told (Service.SetRelAlarm None increment cycle) = (refl, refl, tt)
-  refusals_told (Service.SetRelAlarm (Some a) increment cycle) =
-      (tt, refl, (both_known (is_bad_increment S a) increment cycle, refl, tt))
-  refusals_told (Service.SetAbsAlarm None start cycle) = (refl, refl, tt)
-  refusals_told (Service.SetAbsAlarm (Some a) start cycle) =
-      (tt, refl, (both_known (is_bad_start S a) start cycle, refl, tt))
-  refusals_told (Service.CancelAlarm None) = (refl, refl, tt)
-  refusals_told (Service.CancelAlarm (Some a)) = (tt, refl, tt)
-  refusals_told (Service.GetAlarm None) = (refl, refl, tt)
-  refusals_told (Service.GetAlarm (Some a)) = (tt, refl, tt)
-  refusals_told (Service.GetAlarmBase None) = (refl, refl, tt)
-  refusals_told (Service.GetAlarmBase (Some a)) = tt
+  refusals_told on (Service.ReleaseResource None) = (refl, refl, λ _. tt)
+  refusals_told on (Service.ReleaseResource (Some r)) =
+      (tells.routine, refl, λ _. (tells.above r, refl, λ _. (ap not (tells.last r), refl, λ _. tt)))
+  refusals_told on (Service.LoadShared None i) = (refl, refl, λ _. tt)
+  refusals_told on (Service.LoadShared (Some r) i) =
+      (tells.routine, refl, λ _. (refl, refl, λ _. (ap not (tells.held r), refl, λ _. tt)))
+  refusals_told on (Service.StoreShared None i v) = (refl, refl, λ _. tt)
+  refusals_told on (Service.StoreShared (Some r) i v) =
+      (tells.routine, refl, λ _. (refl, refl, λ _. (ap not (tells.held r), refl, λ _. tt)))
+  refusals_told on (Service.SetEvent None m) = (refl, refl, λ _. tt)
+  refusals_told on (Service.SetEvent (Some t) m) = (refl, refl, λ _. (is_there t, refl, λ _. tt))
+  refusals_told on (Service.ClearEvent m) = (tells.routine, refl, λ _. (tells.basic, refl, λ _. tt))
+  refusals_told on (Service.GetEvent None) = (refl, refl, λ _. tt)
+  refusals_told on (Service.GetEvent (Some t)) = (refl, refl, λ _. (is_there t, refl, λ _. tt))
+  refusals_told on (Service.WaitEvent m) =
+      (tells.routine, refl, λ _. (tells.basic, refl, λ _. (tells.any, refl, λ _. tt)))
+  refusals_told on (Service.SetRelAlarm None increment cycle) = (refl, refl, λ _. tt)
+  refusals_told on (Service.SetRelAlarm (Some a) increment cycle) =
+      (tt, refl, λ _. (both_known (is_bad_increment S a) increment cycle, refl, λ _. tt))
+  refusals_told on (Service.SetAbsAlarm None start cycle) = (refl, refl, λ _. tt)
+  refusals_told on (Service.SetAbsAlarm (Some a) start cycle) =
+      (tt, refl, λ _. (both_known (is_bad_start S a) start cycle, refl, λ _. tt))
+  refusals_told on (Service.CancelAlarm None) = (refl, refl, λ _. tt)
+  refusals_told on (Service.CancelAlarm (Some a)) = (tt, refl, λ _. tt)
+  refusals_told on (Service.GetAlarm None) = (refl, refl, λ _. tt)
+  refusals_told on (Service.GetAlarm (Some a)) = (tt, refl, λ _. tt)
+  refusals_told on (Service.GetAlarmBase None) = (refl, refl, λ _. tt)
+  refusals_told on (Service.GetAlarmBase (Some a)) = tt

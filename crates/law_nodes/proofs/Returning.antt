@@ -28,7 +28,7 @@ use Rattle.law_nodes.proofs.Stepping.{plain_told, told_first}
 use Rattle.law_nodes.proofs.Telling.{routine_tells, routine_tells_running, told_each}
 
 module _ (S : System) (s : State) (a : Active) (calls : s.active ≡ Some a)
-    (registers : List (Option ℕ)) (all : AreValues registers a.context.registers) where
+    (registers : List (Option ℕ)) (used : ℕ) (all : AreValues registers a.context.registers) where
   abbrev x : Context
   x = a.context
 
@@ -39,7 +39,7 @@ module _ (S : System) (s : State) (a : Active) (calls : s.active ≡ Some a)
   w = switch_of s
 
   abbrev n : Node
-  n = node_of (of_routine w a) registers
+  n = node_of (of_routine w a) registers used
 
   abbrev At : Switch → Table → Active → Type 0
   At v table b = is_told table (of_routine v b) ≡ true
@@ -52,7 +52,7 @@ module _ (S : System) (s : State) (a : Active) (calls : s.active ≡ Some a)
       (reply_to S (RoutineCalls a) s (at_values x call) o).results x) a)
   routine_replied call (Some refusal) =
       told_first (of_routine w (moved (answered refusal Results.Nothing x) a))
-      (slice_set registers 0 (Some (status_number refusal))) []
+      (slice_set registers 0 (Some (status_number refusal))) used []
       (answered_values refusal Nothing Results.Nothing tt registers x all)
   routine_replied call None =
       subst (λ y. At w (replied S n call None) (moved y a))
@@ -60,7 +60,7 @@ module _ (S : System) (s : State) (a : Active) (calls : s.active ≡ Some a)
       (told_first
       (of_routine w (moved (answered_context Status.Ok (results S s (at_values x call)) x) a))
       (with_found (results_of S who (caller_by who []) call)
-      (slice_set registers 0 (Some (status_number Status.Ok)))) []
+      (slice_set registers 0 (Some (status_number Status.Ok)))) used []
       (answered_values Status.Ok (results_of S who (caller_by who []) call)
       (results S s (at_values x call))
       (results_told S s who (caller_by who []) (routine_tells_running S s a) x call) registers x
@@ -78,8 +78,9 @@ module _ (S : System) (s : State) (a : Active) (calls : s.active ≡ Some a)
       ((interrupts_off s, Status.SysDisabled) ∷ refusals S (RoutineCalls a) s (at_values x call)) (
         refl,
         refl,
-        refusals_told S s (caller_by who []) (RoutineCalls a) (routine_tells S s a) x registers all
-            call,
+        λ on.
+            refusals_told S s (caller_by who []) (RoutineCalls a) (routine_tells S s a) x
+            registers all on call,
       )
       (routine_replied call refusal)
     where
@@ -106,17 +107,17 @@ module _ (S : System) (s : State) (a : Active) (calls : s.active ≡ Some a)
 
   on_moved : (v : Switch)
       → IfSome (option_map (moved (next x)) s.active)
-      (At v (node_of (of_routine v (moved (next x) a)) registers ∷ []))
+      (At v (node_of (of_routine v (moved (next x) a)) registers used ∷ []))
   on_moved v =
-      routine_moves v (node_of (of_routine v (moved (next x) a)) registers ∷ []) (next x)
-      (told_first (of_routine v (moved (next x) a)) registers [] all)
+      routine_moves v (node_of (of_routine v (moved (next x) a)) registers used ∷ []) (next x)
+      (told_first (of_routine v (moved (next x) a)) registers used [] all)
 
   pub active_told : (what : Instr) → (e what).over ≡ false
       → IfSome (e what).active (At (switch_of (e what)) (steps_by S what n))
   unfolding service
   active_told (Instr.Plain what) goes_on =
       routine_moves w (steps_by S (Instr.Plain what) n) (plain what x (s.words who)).context
-      (plain_told (of_routine w a) registers all (s.words who) what)
+      (plain_told (of_routine w a) registers used all (s.words who) what)
   active_told (Instr.Service call) goes_on =
       routine_moves w (served S n call)
       (answered (service S (RoutineCalls a) s (at_values x call)).status
@@ -149,5 +150,6 @@ routine_sound S s a executes n at =
     (λ m. IfSome (behind_by S (RoutineCalls a) s).active
     (λ b. is_told (steps S m) (of_routine (switch_of (behind_by S (RoutineCalls a) s)) b) ≡ true))
     (sym is.0)
-    (active_told S s a (subst (IsCaller s) executes.calls (executor_calls s)) n.registers is.1
+    (active_told S s a (subst (IsCaller s) executes.calls (executor_calls s)) n.registers n.used
+    is.1
     (instruction_at S (Owner.Routine a.routine) a.context.place) executes.goes_on)

@@ -31,8 +31,8 @@ pub record RoutineOutcome (pays : Table → ℕ → Bool) (v : Switch) (started 
   pub own : IfSome active (λ b. is_told next (of_routine v b) ≡ true)
 
 module _ (S : System) (s : State) (a : Active) (calls : s.active ≡ Some a)
-    (registers : List (Option ℕ)) (all : AreValues registers a.context.registers) (c : Weights)
-    (pays : Table → ℕ → Bool) where
+    (registers : List (Option ℕ)) (used : ℕ) (all : AreValues registers a.context.registers)
+    (c : Weights) (pays : Table → ℕ → Bool) where
   abbrev x : Context
   x = a.context
 
@@ -40,7 +40,7 @@ module _ (S : System) (s : State) (a : Active) (calls : s.active ≡ Some a)
   who = Owner.Routine a.routine
 
   abbrev n : Node
-  n = node_of (of_routine (switch_of s) a) registers
+  n = node_of (of_routine (switch_of s) a) registers used
 
   abbrev e : Instr → State
   e what = (executed S who (RoutineCalls a) x what s).state
@@ -65,15 +65,16 @@ module _ (S : System) (s : State) (a : Active) (calls : s.active ≡ Some a)
         ∷ refusals S (RoutineCalls a) s (at_values x call)) (
           refl,
           refl,
-          refusals_told S s (caller_by who []) (RoutineCalls a) (routine_tells S s a) x registers
-              all call,
+          λ on.
+              refusals_told S s (caller_by who []) (RoutineCalls a) (routine_tells S s a) x
+              registers all on call,
         )
         passes;
     own =
-        routine_moves S s a calls registers all (switch_of s) (replied S n call refusal)
+        routine_moves S s a calls registers used all (switch_of s) (replied S n call refusal)
         (answered (reply_to S (RoutineCalls a) s (at_values x call) refusal).status
         (reply_to S (RoutineCalls a) s (at_values x call) refusal).results x)
-        (routine_replied S s a calls registers all call refusal);
+        (routine_replied S s a calls registers used all call refusal);
   }
     where
       refusal : Option Status
@@ -87,11 +88,11 @@ module _ (S : System) (s : State) (a : Active) (calls : s.active ≡ Some a)
   routine_outcome (Instr.Plain what) goes_on passes = record {
     next = steps_by S (Instr.Plain what) n;
     paid = passes;
-    own = active_told S s a calls registers all (Instr.Plain what) goes_on;
+    own = active_told S s a calls registers used all (Instr.Plain what) goes_on;
   }
   routine_outcome (Instr.Service call) goes_on passes = service_outcome call passes
   routine_outcome (Instr.Control control) goes_on passes = record {
     next = steps_by S (Instr.Control control) n;
     paid = passes;
-    own = active_told S s a calls registers all (Instr.Control control) goes_on;
+    own = active_told S s a calls registers used all (Instr.Control control) goes_on;
   }

@@ -8,7 +8,7 @@ use Rattle.osek_base.specs.Lists.{same_owner, same_resource}
 use Rattle.law_runs.proofs.Foremost.{equal, self_equal}
 use Rattle.law_runs.proofs.Lists.{clash}
 use Rattle.law_costs.specs.Left.{Switch}
-use Rattle.law_nodes.specs.Nodes.{Node, Standing, covers, is_at, is_beside, same_held, same_switch, same_wait}
+use Rattle.law_nodes.specs.Nodes.{Node, Standing, covers, is_at, is_beside, is_within, same_held, same_switch, same_wait}
 use Rattle.law_nodes.specs.Values.{know_no_more, may_have}
 use Rattle.law_nodes.proofs.Knowing.{AreValues, fewer_values, may_have_of, values_of}
 
@@ -90,14 +90,15 @@ wait_self (Some m) = self_equal m
 
 -- ---- nodes as who stands at them
 
--- the node of who executes, with registers of which that is known
-abbrev pub node_of : Standing → List (Option ℕ) → Node
-node_of x registers =
+-- the node of who executes, with registers of which that is known, and used events
+abbrev pub node_of : Standing → List (Option ℕ) → ℕ → Node
+node_of x registers used =
     record {
       owner = x.owner;
       switch = x.switch;
       held = x.held;
       waits_for = x.waits_for;
+      used = used;
       place = x.context.place;
       registers = registers;
     }
@@ -119,7 +120,7 @@ module _ (m : Node) (x : Standing) where
   places = m.place == x.context.place
 
   same_from : (((owners && switches) && helds) && waits) && places ≡ true
-      → m ≡ node_of x m.registers
+      → m ≡ node_of x m.registers m.used
   same_from h =
       let four = and_parts (((owners && switches) && helds) && waits) places h in
       let three = and_parts ((owners && switches) && helds) waits four.0 in
@@ -135,13 +136,14 @@ module _ (m : Node) (x : Standing) where
         switch = switch i;
         held = held i;
         waits_for = wait i;
+        used = m.used;
         place = place i;
         registers = m.registers;
       }
 
   -- who stands at a node is what it tells
   pub at_is : is_at m x ≡ true
-      → (m ≡ node_of x m.registers) × AreValues m.registers x.context.registers
+      → (m ≡ node_of x m.registers m.used) × AreValues m.registers x.context.registers
   at_is h =
       let both =
       and_parts ((((owners && switches) && helds) && waits) && places)
@@ -160,18 +162,21 @@ module _ (m : Node) (x : Standing) where
       place)
       values
 
-pub is_at_of : (x : Standing) (registers : List (Option ℕ))
-    → AreValues registers x.context.registers → is_at (node_of x registers) x ≡ true
-is_at_of x registers all =
-    all_from (node_of x registers) x (owner_self x.owner) (switch_self x.switch) (held_self x.held)
-    (wait_self x.waits_for) (self_equal x.context.place)
+pub is_at_of : (x : Standing) (registers : List (Option ℕ)) (used : ℕ)
+    → AreValues registers x.context.registers → is_at (node_of x registers used) x ≡ true
+is_at_of x registers used all =
+    all_from (node_of x registers used) x (owner_self x.owner) (switch_self x.switch)
+    (held_self x.held) (wait_self x.waits_for) (self_equal x.context.place)
     (may_have_of registers x.context.registers all)
 
 -- who stands at a node stands at each that covers it
 pub covered_at : (m n : Node) (x : Standing) → covers m n ≡ true → is_at n x ≡ true
     → is_at m x ≡ true
 covered_at m n x over at =
-    let both = and_parts (is_beside m n) (know_no_more m.registers n.registers) over in
+    let all =
+    and_parts (is_beside m n && know_no_more m.registers n.registers) (is_within n.used m.used)
+    over in
+    let both = and_parts (is_beside m n) (know_no_more m.registers n.registers) all.0 in
     let is = at_is n x at in
     and_from ((((owners m x && switches m x) && helds m x) && waits m x) && places m x)
     (may_have m.registers x.context.registers)

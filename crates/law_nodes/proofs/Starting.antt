@@ -24,19 +24,21 @@ module _ (passes : Option Status → Bool) where
   all_first (t ∷ ts) [] told all = absurd told
   all_first ((None, e) ∷ ts) ((b, f) ∷ rs) told all =
       let both = and_parts (passes (Some e)) (list_all passes (first_refusals ts)) all in
-      go b (sym (ap (λ s. passes (Some s)) told.1) ∙ both.0) (all_first ts rs told.2 both.1)
+      go b (sym (ap (λ s. passes (Some s)) told.1) ∙ both.0)
+      (λ passed. all_first ts rs (told.2 passed) both.1)
     where
-      go : (b : Bool) → passes (Some f) ≡ true → passes (first_refusal rs) ≡ true
+      go : (b : Bool) → passes (Some f) ≡ true
+          → (b ≡ false → passes (first_refusal rs) ≡ true)
           → passes (cond b (Some f) (first_refusal rs)) ≡ true
       go true first rest = first
-      go false first rest = rest
+      go false first rest = rest refl
   all_first ((Some true, e) ∷ ts) ((b, f) ∷ rs) told all =
       sym (ap (λ c. passes (cond c (Some f) (first_refusal rs))) told.0)
       ∙ sym (ap (λ s. passes (Some s)) told.1)
       ∙ (and_parts (passes (Some e)) true all).0
   all_first ((Some false, e) ∷ ts) ((b, f) ∷ rs) told all =
       sym (ap (λ c. passes (cond c (Some f) (first_refusal rs))) told.0)
-      ∙ all_first ts rs told.2 all
+      ∙ all_first ts rs (told.2 (sym told.0)) all
 
 -- ---- what a call starts goes by no register
 

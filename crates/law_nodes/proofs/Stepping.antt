@@ -14,10 +14,11 @@ use Rattle.law_nodes.proofs.Tests.{second_of}
 
 -- ---- at the first of some nodes, or a later one
 
-pub told_first : (y : Standing) (registers : List (Option ℕ)) (rest : Table)
-    → AreValues registers y.context.registers → is_told (node_of y registers ∷ rest) y ≡ true
-told_first y registers rest all =
-    ap (λ b. b || is_told rest y) (is_at_of y registers all)
+pub told_first : (y : Standing) (registers : List (Option ℕ)) (used : ℕ) (rest : Table)
+    → AreValues registers y.context.registers
+    → is_told (node_of y registers used ∷ rest) y ≡ true
+told_first y registers used rest all =
+    ap (λ b. b || is_told rest y) (is_at_of y registers used all)
 
 pub told_later : (y : Standing) (m : Node) (rest : Table) → is_told rest y ≡ true
     → is_told (m ∷ rest) y ≡ true
@@ -25,41 +26,41 @@ told_later y m rest h = second_of (is_at m y) (is_told rest y) h
 
 -- ---- with the context behind an instruction
 
-module _ (x : Standing) (registers : List (Option ℕ))
+module _ (x : Standing) (registers : List (Option ℕ)) (used : ℕ)
     (all : AreValues registers x.context.registers) where
   abbrev with : Context → Standing
   with y = record x { context = y }
 
   sets_told : (d : ℕ) (o : Option ℕ) (v : ℕ) → IsValue o v
-      → is_told (sets_node (node_of x registers) d o ∷ []) (with (next (with_value x.context d v)))
-      ≡ true
+      → is_told (sets_node (node_of x registers used) d o ∷ [])
+      (with (next (with_value x.context d v))) ≡ true
   sets_told d o v is =
-      told_first (with (next (with_value x.context d v))) (slice_set registers d o) []
+      told_first (with (next (with_value x.context d v))) (slice_set registers d o) used []
       (values_set registers x.context.registers all d o v is)
 
   known_is : (r : ℕ) → IsValue (known registers r) (value x.context r)
   known_is r = value_known registers x.context.registers all r
 
   to_told : (to : ℕ) (rest : Table)
-      → is_told (node_of (with (record x.context { place = to })) registers ∷ rest)
+      → is_told (node_of (with (record x.context { place = to })) registers used ∷ rest)
       (with (record x.context { place = to })) ≡ true
-  to_told to rest = told_first (with (record x.context { place = to })) registers rest all
+  to_told to rest = told_first (with (record x.context { place = to })) registers used rest all
 
   jump_told : (to : ℕ) (o : Option Bool) (b : Bool) → IsValue o b
-      → is_told (jumped o to (node_of x registers))
+      → is_told (jumped o to (node_of x registers used))
       (with (record x.context { place = cond b to (x.context.place + 1) })) ≡ true
-  jump_told to None true is = to_told to (node_of (with (next x.context)) registers ∷ [])
+  jump_told to None true is = to_told to (node_of (with (next x.context)) registers used ∷ [])
   jump_told to None false is =
       told_later (with (next x.context))
-      (node_of (with (record x.context { place = to })) registers)
-      (node_of (with (next x.context)) registers ∷ []) (to_told (x.context.place + 1) [])
+      (node_of (with (record x.context { place = to })) registers used)
+      (node_of (with (next x.context)) registers used ∷ []) (to_told (x.context.place + 1) [])
   jump_told to (Some true) true is = to_told to []
   jump_told to (Some true) false is = clash is
   jump_told to (Some false) true is = clash (sym is)
   jump_told to (Some false) false is = to_told (x.context.place + 1) []
 
   pub plain_told : (words : ℕ → ℕ) (what : PlainInstr)
-      → is_told (plain_steps what (node_of x registers))
+      → is_told (plain_steps what (node_of x registers used))
       (with (plain what x.context words).context) ≡ true
   plain_told words Plain.Nop = to_told (x.context.place + 1) []
   plain_told words (Plain.Li d v) = sets_told d (Some v) v refl

@@ -5,15 +5,16 @@ use Rattle.std.specs.List.{flat_map, list_any}
 use Rattle.osek_base.specs.declared.ids.Owner.{Owner}
 use Rattle.std.proofs.lemmas.Bool.{and_parts}
 use Rattle.osek_base.specs.Lists.{is_empty}
-use Rattle.osek_base.specs.Service.{JobCalls, RoutineCalls, holds, running_task}
+use Rattle.osek_base.specs.Service.{JobCalls, RoutineCalls, running_task}
 use Rattle.osek_base.specs.State.{Active, Job, State, jobs_of, same_id}
 use Rattle.osek_base.specs.System.{System, activation_of}
 use Rattle.law_runs.proofs.Known.{IsRunningCaller}
 use Rattle.law_runs.proofs.Lists.{clash}
+use Rattle.law_costs.specs.Known.{ExcludesOthers}
 use Rattle.law_nodes.specs.Nodes.{Standing, Table, is_at, is_told}
 use Rattle.law_nodes.specs.Services.{caller_by}
 use Rattle.law_nodes.proofs.Answering.{TellsRunning}
-use Rattle.law_nodes.proofs.Owning.{any_found, some_kept}
+use Rattle.law_nodes.proofs.Owning.{some_kept}
 use Rattle.law_nodes.proofs.Refusing.{TellsOf}
 
 -- ---- lists one behind another
@@ -43,8 +44,9 @@ full_by_one most [] some few = clash some
 full_by_one most (j ∷ jobs) some few = grind (arith, few)
 
 module _ (S : System) (s : State) (j : Job) (calls : IsRunningCaller s j) where
-  pub job_tells : TellsOf S s (caller_by (Owner.Task j.id.task) j.held) (JobCalls j)
-  job_tells = record {
+  pub job_tells : ExcludesOthers S (JobCalls j) s
+      → TellsOf S s (caller_by (Owner.Task j.id.task) j.held) (JobCalls j)
+  job_tells excludes = record {
     routine = refl;
     any = refl;
     own = λ t. refl;
@@ -53,8 +55,7 @@ module _ (S : System) (s : State) (j : Job) (calls : IsRunningCaller s j) where
     above = λ r. refl;
     last = λ r. refl;
     held = λ r. refl;
-    holding = λ r holding.
-        any_found (λ k. holds k r) (λ k. same_id k.id j.id) s.jobs j calls.found holding;
+    alone = excludes;
     there = λ t own.
         some_kept (λ k. k.id.task == t) (λ k. same_id k.id j.id) s.jobs j calls.found own;
     full = λ t own.
@@ -82,7 +83,7 @@ module _ (S : System) (s : State) (a : Active) where
     above = λ r. refl;
     last = λ r. refl;
     held = λ r. refl;
-    holding = λ r holding. clash (sym holding);
+    alone = λ on r takes. clash (sym takes);
     there = λ t own. clash (sym own);
     full = λ t own. clash (sym own);
   }

@@ -40,6 +40,21 @@ module _ {X : Type 0} where
       go true is some both rest = step x is both.0
       go false is some both rest = rest some both.1
 
+  -- .. and has what holds of each
+  pub by_any_of : (C : Type 0) (p q : X → Bool) (P : X → Type 0) (xs : List X)
+      → ((x : X) → p x ≡ true → q x ≡ true → P x → C) → list_any p xs ≡ true
+      → list_all q xs ≡ true → AllByRecursion P xs → C
+  by_any_of C p q P [] step any all each = clash (sym any)
+  by_any_of C p q P (x ∷ xs) step any all each =
+      go (p x) refl any (and_parts (q x) (list_all q xs) all)
+      (λ later rest. by_any_of C p q P xs step later rest each.1)
+    where
+      go : (b : Bool) → p x ≡ b → (b || list_any p xs) ≡ true
+          → (q x ≡ true) × (list_all q xs ≡ true)
+          → (list_any p xs ≡ true → list_all q xs ≡ true → C) → C
+      go true is some both rest = step x is both.0 each.0
+      go false is some both rest = rest some both.1
+
   pub any_weaker : (p q : X → Bool) (xs : List X) → ((x : X) → p x ≡ true → q x ≡ true)
       → list_any p xs ≡ true → list_any q xs ≡ true
   any_weaker p q [] step any = any

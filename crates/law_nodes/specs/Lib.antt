@@ -4,7 +4,9 @@ pub mod Services
 pub mod Steps
 pub mod Closed
 pub mod Laws
+pub mod Early
 pub mod Prices
 pub mod Setting
 pub mod Paid
 pub mod Worked
+pub mod KnownTicks

@@ -1,5 +1,5 @@
 -- Nodes: what is told of a job or a routine as it stands.
-use Rattle.std.specs.Prelude.{ℕ, Bool, true, false, not, ◌&&◌, ◌==◌, if◌then◌else◌, List, [], ◌∷◌, Option, Some, None, replicate}
+use Rattle.std.specs.Prelude.{ℕ, Bool, true, false, not, ◌&&◌, ◌==◌, if◌then◌else◌, List, [], ◌∷◌, Option, Some, None, replicate, bit_and, bit_or}
 use Rattle.std.specs.List.{list_any}
 use Rattle.osek_base.specs.declared.limits.TheConstants.{REGISTERS}
 use Rattle.osek_base.specs.declared.ids.Owner.{Owner}
@@ -44,12 +44,14 @@ of_routine w a =
 
 -- ---- nodes
 
--- the same, of whose registers some aren't known
+-- the same, of whose registers some aren't known, with events that are *used*: they may be set, and
+-- nothing is paid by them any more. Who stands at a node may have others set besides
 pub record Node : Type 0 where
   pub owner : Owner
   pub switch : Switch
   pub held : List ResId
   pub waits_for : Option ℕ
+  pub used : ℕ
   pub place : ℕ
   pub registers : List (Option ℕ)
 
@@ -75,15 +77,21 @@ is_at n x =
     && same_wait n.waits_for x.waits_for && n.place == x.context.place
     && may_have n.registers x.context.registers
 
--- whether two nodes are the same but for registers
+-- whether two nodes are the same but for registers and used events
 abbrev pub is_beside : Node → Node → Bool
 is_beside m n =
     same_owner m.owner n.owner && same_switch m.switch n.switch && same_held m.held n.held
     && same_wait m.waits_for n.waits_for && m.place == n.place
 
--- whether the first covers the second: it is the same, and knows no more of registers
+-- whether events are all among others
+abbrev pub is_within : ℕ → ℕ → Bool
+is_within m n = bit_and m n == m
+
+-- whether the first covers the second: it is the same, knows no more of registers, and has no fewer
+-- events used
 abbrev pub covers : Node → Node → Bool
-covers m n = is_beside m n && know_no_more m.registers n.registers
+covers m n =
+    is_beside m n && know_no_more m.registers n.registers && is_within n.used m.used
 
 -- ---- tables
 
@@ -100,7 +108,7 @@ is_covered table n = list_any (λ m. covers m n) table
 
 -- ---- where nodes begin
 
--- as a job and a routine begin: interrupts are on, and all is 0
+-- as a job and a routine begin: interrupts are on, and all is 0. No event is set for a new job
 abbrev pub fresh_node : Owner → Node
 fresh_node owner =
     record {
@@ -108,10 +116,16 @@ fresh_node owner =
       switch = on;
       held = [];
       waits_for = None;
+      used = 0;
       place = 0;
       registers = replicate REGISTERS (Some 0);
     }
 
--- a node whose wait ends
+-- events, and those that are waited for
+abbrev pub with_awaited : ℕ → Option ℕ → ℕ
+with_awaited used None = used
+with_awaited used (Some m) = bit_or used m
+
+-- a node whose wait ends: what was waited for is used
 abbrev pub woken_node : Node → Node
-woken_node n = record n { waits_for = None }
+woken_node n = record n { waits_for = None; used = with_awaited n.used n.waits_for }

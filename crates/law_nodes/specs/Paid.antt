@@ -1,6 +1,6 @@
 -- Whether costs of nodes pay for all that comes, and what they bound.
-use Rattle.std.specs.Prelude.{ℕ, ◌≡◌, Bool, true, not, ◌&&◌, ◌||◌, nat_le, nat_lt, max, List, map, is_some, length}
-use Rattle.std.specs.List.{filter, list_all, sum_by}
+use Rattle.std.specs.Prelude.{ℕ, ◌+◌, ◌≡◌, Bool, true, not, ◌&&◌, ◌||◌, nat_le, nat_lt, max, List, map, Option, Some, None, is_some, length}
+use Rattle.std.specs.List.{filter, list_all, list_any, sum_by}
 use Rattle.osek_base.specs.declared.ids.Owner.{Owner}
 use Rattle.osek_base.specs.declared.ids.ResId.{ResId}
 use Rattle.osek_base.specs.Activation.{new_job}
@@ -18,9 +18,10 @@ use Rattle.law_costs.specs.Laws.{Pay}
 use Rattle.law_costs.specs.Left.{Weights, is_off, on}
 use Rattle.law_costs.specs.Paying.{is_upper, start_of}
 use Rattle.law_nodes.specs.Closed.{is_closed, known_by}
-use Rattle.law_nodes.specs.Nodes.{Node, is_at, of_job, of_routine, woken_node}
+use Rattle.law_nodes.specs.Early.{bits, is_mask, is_set, sum_besides, sum_of}
+use Rattle.law_nodes.specs.Nodes.{Node, covers, is_at, of_job, of_routine, woken_node}
 use Rattle.law_nodes.specs.Setting.{are_set_slowly}
-use Rattle.law_nodes.specs.Prices.{Priced, highest, is_paid, nodes_pay, priced_by, table_of}
+use Rattle.law_nodes.specs.Prices.{Priced, highest, nodes_pay, priced_by, table_of}
 
 -- ---- sections that a dispatch begins
 
@@ -35,6 +36,13 @@ may_rise S p n =
     not (is_some n.waits_for) && not (is_off n.switch) && nat_lt (lowest S n.owner n.held) p
     && nat_le p (highest S n.owner n.held)
 
+-- ---- events
+
+-- what an event costs that is set, and what it holds where it is set early, by task and event
+pub record EventCosts : Type 0 where
+  pub set : ℕ → ℕ → ℕ
+  pub held : ℕ → ℕ → ℕ
+
 -- ---- what begins at a node
 
 -- a job of the level that is activated, and a routine whose interrupt arrives
@@ -46,18 +54,31 @@ pays_fresh (Owner.Task t) S p c q =
 pays_fresh (Owner.Routine i) S p c q =
     not (is_at q.node (of_routine on (begun i))) || nat_le q.cost (c.costs.of_arrival i)
 
+-- a job whose wait ends, by an event that costs so much: all others that it may find set and that
+-- aren't used are paid with it, as long as it waits
+abbrev pub is_woken_by : (ℕ → ℕ) → List Priced → ℕ → Node → Bool
+is_woken_by held prices most m =
+    list_any (λ q. covers q.node m && nat_le (q.cost + sum_besides held q.node.used) most) prices
+
+-- .. by each that it waits for
+abbrev pub is_woken : (ℕ → ℕ) → (ℕ → ℕ) → List Priced → Option ℕ → Node → Bool
+is_woken held events prices None n = true
+is_woken held events prices (Some m) n =
+    is_mask m
+    && list_all (λ b. not (is_set m b) || is_woken_by held prices (events b) (woken_node n)) bits
+
 -- a job of the level whose wait ends
-abbrev pub pays_woken : Owner → System → ℕ → (ℕ → ℕ) → List Priced → Priced → Bool
-pays_woken (Owner.Task t) S p events prices q =
-    not (is_some q.node.waits_for && nat_le p (priority_of S t))
-    || is_paid prices 0 (events t) (woken_node q.node)
-pays_woken (Owner.Routine i) S p events prices q = true
+abbrev pub pays_woken : Owner → System → ℕ → EventCosts → List Priced → Priced → Bool
+pays_woken (Owner.Task t) S p e prices q =
+    not (nat_le p (priority_of S t))
+    || is_woken (e.held t) (e.set t) prices q.node.waits_for q.node
+pays_woken (Owner.Routine i) S p e prices q = true
 
 -- a node costs something, and is paid by what begins there
-abbrev pub is_covered_by : System → ℕ → Weights → (ℕ → ℕ) → List Priced → Priced → Bool
-is_covered_by S p c events prices q =
+abbrev pub is_covered_by : System → ℕ → Weights → EventCosts → List Priced → Priced → Bool
+is_covered_by S p c e prices q =
     nat_le 1 q.cost && (not (may_rise S p q.node) || nat_le q.cost c.of_section)
-    && pays_fresh q.node.owner S p c q && pays_woken q.node.owner S p events prices q
+    && pays_fresh q.node.owner S p c q && pays_woken q.node.owner S p e prices q
 
 -- ---- what comes
 
@@ -73,32 +94,37 @@ boot_pays S mode p c =
 
 -- ---- all of it
 
--- costs of which an event has one for each task, whichever events are set
-abbrev pub with_events : Weights → (ℕ → ℕ) → Weights
-with_events c events = record c { of_event = λ t m. events t }
+-- costs of which each event of a task has one
+abbrev pub with_events : Weights → EventCosts → Weights
+with_events c e = record c { of_event = λ t m. sum_of (e.set t) m }
 
-abbrev pub prices_pay : System → ℕ → ℕ → Weights → (ℕ → ℕ) → List Priced → Bool
-prices_pay S mode p c events prices =
-    nodes_pay S p (with_events c events) prices
-    && list_all (is_covered_by S p (with_events c events) events prices) prices
-    && alarms_pay S (with_events c events) && boot_pays S mode p (with_events c events)
+-- an event costs what it holds where it is set early
+abbrev pub events_pay : System → EventCosts → Bool
+events_pay S e =
+    list_all (λ t. list_all (λ b. nat_le (e.held t b) (e.set t b)) bits) (below (length S.tasks))
+
+abbrev pub prices_pay : System → ℕ → ℕ → Weights → EventCosts → List Priced → Bool
+prices_pay S mode p c e prices =
+    nodes_pay S p (with_events c e) e.held prices
+    && list_all (is_covered_by S p (with_events c e) e prices) prices
+    && alarms_pay S (with_events c e) && boot_pays S mode p (with_events c e) && events_pay S e
 
 -- ---- the laws
 
 -- prices that pay make costs that do
 abbrev pub PricesPay : Type 0
 PricesPay =
-    (S : System) (mode p : ℕ) (c : Weights) (events : ℕ → ℕ) (prices : List Priced)
-    → prices_pay S mode p c events prices ≡ true
-    → Pay S mode p (priced_by (with_events c events) prices) (known_by (table_of prices))
+    (S : System) (mode p : ℕ) (c : Weights) (e : EventCosts) (prices : List Priced)
+    → prices_pay S mode p c e prices ≡ true
+    → Pay S mode p (priced_by S p (with_events c e) e.held prices) (known_by (table_of prices))
 
 -- so where a table is closed and its prices pay, as many ticks as are enough for all that can come
 -- bound each response; alarms are set by so many counts at least
 abbrev pub PricesBoundResponses : Type 0
 PricesBoundResponses =
-    (S : System) (mode : ℕ) (rules : List ArrivalRule) (p : ℕ) (c : Weights) (events : ℕ → ℕ)
+    (S : System) (mode : ℕ) (rules : List ArrivalRule) (p : ℕ) (c : Weights) (e : EventCosts)
     (prices : List Priced) (least : ℕ → ℕ) (most : ℕ) → IsProper S
-    → is_closed S (table_of prices) ≡ true → prices_pay S mode p c events prices ≡ true
+    → is_closed S (table_of prices) ≡ true → prices_pay S mode p c e prices ≡ true
     → are_set_slowly S mode c.costs (table_of prices) least ≡ true
     → AreAlwaysEnough S rules c.costs (most_expiries S mode least most) most
     → IsBoundOf S mode rules p most

@@ -1,5 +1,5 @@
 -- Costs of nodes, and whether they pay for the instructions of who is at them.
-use Rattle.std.specs.Prelude.{ℕ, ◌+◌, ◌≡◌, min, max, Bool, true, not, ◌&&◌, ◌||◌, nat_le, if◌then◌else◌, List, [], ◌∷◌, map, Option, Some, None, is_some, unwrap_or}
+use Rattle.std.specs.Prelude.{ℕ, ◌+◌, ◌≡◌, max, Bool, true, not, ◌&&◌, ◌||◌, nat_le, if◌then◌else◌, List, [], ◌∷◌, map, Option, Some, None, is_some, unwrap_or}
 use Rattle.std.specs.List.{list_all, list_any}
 use Rattle.osek_base.specs.declared.ids.Owner.{Owner}
 use Rattle.osek_base.specs.declared.ids.ResId.{ResId}
@@ -12,6 +12,7 @@ use Rattle.law_costs.specs.Jobs.{PayForJobs, left_of_section}
 use Rattle.law_costs.specs.Left.{Weights, is_off}
 use Rattle.law_costs.specs.Routines.{PayForRoutines, started_where}
 use Rattle.law_nodes.specs.Closed.{known_by}
+use Rattle.law_nodes.specs.Early.{held_early, lesser, freed_early}
 use Rattle.law_nodes.specs.Nodes.{Node, Standing, Table, covers, is_at, of_job, of_routine}
 use Rattle.law_nodes.specs.Services.{answers, replied}
 use Rattle.law_nodes.specs.Steps.{steps_by}
@@ -25,26 +26,29 @@ pub record Priced : Type 0 where
 abbrev pub table_of : List Priced → Table
 table_of prices = map (λ q. q.node) prices
 
--- the least cost of those nodes at which who executes is, if there is one
-abbrev pub lesser : ℕ → Option ℕ → ℕ
-lesser cost None = cost
-lesser cost (Some other) = min cost other
-
-abbrev pub least : List Priced → Standing → Option ℕ
-least [] x = None
-least (q ∷ prices) x =
-    if is_at q.node x then Some (lesser q.cost (least prices x)) else least prices x
+-- the least of those nodes at which who executes is, if there is one
+abbrev pub least : (Priced → ℕ) → List Priced → Standing → Option ℕ
+least cost [] x = None
+least cost (q ∷ prices) x =
+    if is_at q.node x then Some (lesser (cost q) (least cost prices x)) else least cost prices x
 
 -- .. and 0 where there is none
-abbrev pub cost_of : List Priced → Standing → ℕ
-cost_of prices x = unwrap_or (least prices x) 0
+abbrev pub cost_of : (Priced → ℕ) → List Priced → Standing → ℕ
+cost_of cost prices x = unwrap_or (least cost prices x) 0
+
+-- the cost of a node alone, and with what the events hold that are set for a task
+abbrev pub alone : Priced → ℕ
+alone q = q.cost
+
+abbrev pub with_held : System → ℕ → (ℕ → ℕ → ℕ) → ℕ → ℕ → Priced → ℕ
+with_held S p held t m q = q.cost + held_early S p held t m q.node.used
 
 -- costs by these prices; all else is as given
-abbrev pub priced_by : Weights → List Priced → Weights
-priced_by c prices =
+abbrev pub priced_by : System → ℕ → Weights → (ℕ → ℕ → ℕ) → List Priced → Weights
+priced_by S p c held prices =
     record c {
-      of_active = λ w a. cost_of prices (of_routine w a);
-      of_job = λ w j. cost_of prices (of_job w j);
+      of_active = λ w a. cost_of alone prices (of_routine w a);
+      of_job = λ m w j. cost_of (with_held S p held j.id.task m) prices (of_job w j);
     }
 
 -- ---- whether a job counts that is at a node
@@ -67,11 +71,13 @@ abbrev pub is_paid : List Priced → ℕ → ℕ → Node → Bool
 is_paid prices more most m =
     list_any (λ q. covers q.node m && nat_le (q.cost + more) most) prices
 
--- .. each step of a job that may count; and with interrupts off, the section of a dispatch, which
--- is left where the job doesn't count behind it
-abbrev pub job_fits : System → ℕ → Weights → List Priced → Node → ℕ → ℕ → Table → Bool
-job_fits S p c prices n more most next =
-    list_all (λ m. not (may_count S p m) || is_paid prices more most m) next
+-- .. each step of a job that may count, which may cost more by the events that it goes on by; and
+-- with interrupts off, the section of a dispatch, which is left where the job doesn't count behind
+-- it
+abbrev pub job_fits : System → ℕ → Weights → (Node → ℕ) → List Priced → Node → ℕ → ℕ → Table
+    → Bool
+job_fits S p c by prices n more most next =
+    list_all (λ m. not (may_count S p m) || is_paid prices more (most + by m) m) next
     && nat_le (left_of_section c n.switch + more) most
 
 -- .. each step of a routine
@@ -81,11 +87,15 @@ routine_fits prices more most next =
 
 -- whether the cost of a node pays for steps and what is started with them: one less is left at
 -- least; of a lower job no more than may be where a window begins
-abbrev pub pays_by : Owner → System → ℕ → Weights → List Priced → Priced → Table → ℕ → Bool
-pays_by (Owner.Task t) S p c prices q next start =
-    (not (may_count S p q.node) || job_fits S p c prices q.node (start + 1) q.cost next)
-    && (nat_le p (priority_of S t) || job_fits S p c prices q.node start c.costs.at_begin next)
-pays_by (Owner.Routine i) S p c prices q next start = routine_fits prices (start + 1) q.cost next
+abbrev pub pays_by : Owner → System → ℕ → Weights → (ℕ → ℕ → ℕ) → Instr → List Priced → Priced
+    → Table → ℕ → Bool
+pays_by (Owner.Task t) S p c held what prices q next start =
+    (not (may_count S p q.node)
+    || job_fits S p c (freed_early S p held t what q.node) prices q.node (start + 1) q.cost next)
+    && (nat_le p (priority_of S t)
+    || job_fits S p c (λ m. 0) prices q.node start c.costs.at_begin next)
+pays_by (Owner.Routine i) S p c held what prices q next start =
+    routine_fits prices (start + 1) q.cost next
 
 -- whether a test passes of what may become of who is at a node, and what is started with that: by
 -- each answer that a service may give
@@ -96,23 +106,25 @@ all_outcomes S c pays (Instr.Service call) n =
 all_outcomes S c pays what n = pays (steps_by S what n) 0
 
 -- whether the cost of a node pays for the instruction there. Who waits executes none
-abbrev pub node_pays : System → ℕ → Weights → List Priced → Priced → Bool
-node_pays S p c prices q =
+abbrev pub node_pays : System → ℕ → Weights → (ℕ → ℕ → ℕ) → List Priced → Priced → Bool
+node_pays S p c held prices q =
     is_some q.node.waits_for
-    || all_outcomes S c (pays_by q.node.owner S p c prices q)
+    || all_outcomes S c
+    (pays_by q.node.owner S p c held (instruction_at S q.node.owner q.node.place) prices q)
     (instruction_at S q.node.owner q.node.place) q.node
 
-abbrev pub nodes_pay : System → ℕ → Weights → List Priced → Bool
-nodes_pay S p c prices = list_all (node_pays S p c prices) prices
+abbrev pub nodes_pay : System → ℕ → Weights → (ℕ → ℕ → ℕ) → List Priced → Bool
+nodes_pay S p c held prices = list_all (node_pays S p c held prices) prices
 
 -- ---- the law
 
 -- where each node's cost pays, such costs pay for all whom the table tells
-pub record PayForNodes (S : System) (p : ℕ) (c : Weights) (prices : List Priced) : Type 0 where
-  pub jobs : PayForJobs S p (priced_by c prices) (known_by (table_of prices))
-  pub routines : PayForRoutines S (priced_by c prices) (known_by (table_of prices))
+pub record PayForNodes (S : System) (p : ℕ) (c : Weights) (held : ℕ → ℕ → ℕ)
+    (prices : List Priced) : Type 0 where
+  pub jobs : PayForJobs S p (priced_by S p c held prices) (known_by (table_of prices))
+  pub routines : PayForRoutines S (priced_by S p c held prices) (known_by (table_of prices))
 
 abbrev pub NodesPay : Type 0
 NodesPay =
-    (S : System) (p : ℕ) (c : Weights) (prices : List Priced) → nodes_pay S p c prices ≡ true
-    → PayForNodes S p c prices
+    (S : System) (p : ℕ) (c : Weights) (held : ℕ → ℕ → ℕ) (prices : List Priced)
+    → nodes_pay S p c held prices ≡ true → PayForNodes S p c held prices

@@ -1,6 +1,6 @@
 -- OSEK/VDX OS: specification of operating system services. What one may answer and change at a
 -- node.
-use Rattle.std.specs.Prelude.{ℕ, ◌+◌, Bool, true, false, not, ◌&&◌, ◌||◌, ◌==◌, nat_le, nat_lt, if◌then◌else◌, List, [], ◌∷◌, ◌++◌, Option, Some, None, slice_set}
+use Rattle.std.specs.Prelude.{ℕ, ◌+◌, Bool, true, false, not, ◌&&◌, ◌||◌, ◌==◌, nat_le, nat_lt, if◌then◌else◌, List, [], ◌∷◌, ◌++◌, Option, Some, None, slice_set, bit_and, bit_or, bit_xor}
 use Rattle.std.specs.List.{flat_map}
 use Rattle.osek_base.specs.declared.ids.Owner.{Owner}
 use Rattle.osek_base.specs.declared.ids.ResId.{ResId}
@@ -57,7 +57,9 @@ abbrev pub is_bad_start : System → ℕ → ℕ → ℕ → Bool
 is_bad_start S a start cycle =
     nat_lt (counter_of S a).max_allowed_value start || is_bad_cycle (counter_of S a) cycle
 
--- those of a caller with registers of which that is known, in the order in which they are tried
+-- those of a caller with registers of which that is known, in the order in which they are tried.
+-- What one tells counts where none before it applies: there nobody but the caller may hold the
+-- resource that it asks for
 abbrev pub refusals_of : System → Caller → List (Option ℕ) → ServiceCall
     → List (Option Bool × Status)
 refusals_of S c x (Service.ActivateTask None) = (Some true, Status.Id) ∷ []
@@ -78,7 +80,7 @@ refusals_of S c x (Service.GetTaskState (Some t)) = []
 refusals_of S c x (Service.GetResource None) = (Some true, Status.Id) ∷ []
 refusals_of S c x (Service.GetResource (Some r)) =
     (Some (by_routine c), Status.Access) ∷ (Some (not (caller_may_take S c r)), Status.Access)
-    ∷ (at_least (caller_holds c r), Status.Access) ∷ []
+    ∷ (Some (caller_holds c r), Status.Access) ∷ []
 refusals_of S c x (Service.ReleaseResource None) = (Some true, Status.Id) ∷ []
 refusals_of S c x (Service.ReleaseResource (Some r)) =
     (Some (by_routine c), Status.Access) ∷ (Some (is_above_ceiling S c r), Status.Access)
@@ -174,14 +176,24 @@ answered_node status found n =
       registers = with_found found (slice_set n.registers 0 (Some (status_number status)));
     }
 
+-- events that a job sets for its own task pay for nothing: they are used
+abbrev pub set_by : Owner → ℕ → ℕ → ℕ → ℕ
+set_by (Owner.Task u) t m used = if u == t then bit_or used m else used
+set_by (Owner.Routine i) t m used = used
+
 -- what a job becomes by a service that isn't refused, once that is answered: no node where it ends,
--- and where it may wait, two
+-- and where it may wait, two. Where it goes on, what it would wait for is used then
 abbrev pub job_granted : ServiceCall → Node → List Node
 job_granted Service.TerminateTask n = []
 job_granted (Service.ChainTask (Some t)) n = []
 job_granted (Service.GetResource (Some r)) n = record n { held = n.held ++ r ∷ [] } ∷ []
 job_granted (Service.ReleaseResource (Some r)) n = record n { held = without_last n.held } ∷ []
-job_granted (Service.WaitEvent m) n = n ∷ record n { waits_for = Some m } ∷ []
+job_granted (Service.SetEvent (Some t) m) n =
+    record n { used = set_by n.owner t m n.used } ∷ []
+job_granted (Service.ClearEvent m) n =
+    record n { used = bit_xor n.used (bit_and n.used m) } ∷ []
+job_granted (Service.WaitEvent m) n =
+    record n { used = bit_or n.used m } ∷ record n { waits_for = Some m } ∷ []
 job_granted _ n = n ∷ []
 
 -- a routine goes on

@@ -1,5 +1,5 @@
--- Nodes of two small systems by hand.
-use Rattle.std.specs.Prelude.{ℕ, ◌≡◌, true, false, List, [], ◌∷◌, ◌++◌, Option, Some, None, drop, map}
+-- Nodes of three small systems by hand.
+use Rattle.std.specs.Prelude.{ℕ, ◌≡◌, true, false, if◌then◌else◌, ◌==◌, List, [], ◌∷◌, ◌++◌, Option, Some, None, drop, map}
 use Rattle.osek_base.specs.declared.ids.Owner.{Owner}
 use Rattle.osek_base.specs.declared.ids.ResId.{ResId}
 use Rattle.osek_base.specs.declared.instr.Comparison.{Comparison}
@@ -13,7 +13,7 @@ use Rattle.osek_base.specs.System.{System, Task, no_task}
 use Rattle.law_costs.specs.Left.{Weights}
 use Rattle.law_nodes.specs.Closed.{is_closed}
 use Rattle.law_nodes.specs.Nodes.{Node, Table, fresh_node}
-use Rattle.law_nodes.specs.Paid.{prices_pay}
+use Rattle.law_nodes.specs.Paid.{EventCosts, prices_pay}
 use Rattle.law_nodes.specs.Prices.{Priced}
 use Rattle.law_nodes.specs.Steps.{steps}
 
@@ -111,24 +111,55 @@ of_routine_at x place = record (zero_but x place) { owner = Owner.Routine 0 }
 abbrev pub holding : Node
 holding = record (zero_but (Some 0) 1) { held = ResId.Declared 0 ∷ [] }
 
--- it waits
+-- it waits, and goes on by the event, which is used then
 abbrev pub resting : Node
 resting = record (zero_but (Some 0) 3) { waits_for = Some 1 }
 
--- where r0 isn't known behind ReleaseResource and SetEvent, one node stands for two each
+abbrev pub going_on : Node
+going_on = record (zero_but (Some 0) 3) { used = 1 }
+
+-- where r0 isn't known behind SetEvent, one node stands for two
 abbrev pub waited : Table
 waited =
-    zero_but (Some 0) 0 ∷ holding ∷ zero_but (Some 1) 1 ∷ zero_but None 2 ∷ zero_but (Some 0) 3
-    ∷ resting ∷ of_routine_at (Some 0) 0 ∷ of_routine_at None 1 ∷ []
+    zero_but (Some 0) 0 ∷ holding ∷ zero_but (Some 0) 2 ∷ going_on ∷ resting
+    ∷ of_routine_at (Some 0) 0 ∷ of_routine_at None 1 ∷ []
+
+-- ---- a loop that waits for an event, clears it and works
+
+abbrev pub looping : System
+looping =
+    record (of_task (record no_task {
+      events = 1 ∷ [];
+      program =
+          Instr.Service (Service.WaitEvent 1) ∷ Instr.Service (Service.ClearEvent 1)
+          ∷ Instr.Plain Plain.Nop ∷ Instr.Plain (Plain.Jmp 0) ∷ [];
+    })) { events = 1 ∷ [] }
+
+abbrev pub zero_at : ℕ → Node
+zero_at place = zero_but (Some 0) place
+
+-- by each place once, and where it waits
+abbrev pub looped : Table
+looped =
+    zero_at 0 ∷ record (zero_at 1) { used = 1 } ∷ zero_at 2 ∷ zero_at 3
+    ∷ record (zero_at 1) { waits_for = Some 1 } ∷ []
 
 -- ---- what they cost
+
+-- what the first event costs, and what it holds where it is set early
+abbrev pub of_first : ℕ → ℕ → EventCosts
+of_first set held =
+    record {
+      set = λ t b. if b == 0 then set else 0;
+      held = λ t b. if b == 0 then held else 0;
+    }
 
 -- costs of a task and of an interrupt of the routine; nothing is below the level
 abbrev pub weights : ℕ → ℕ → Weights
 weights task arrival =
     record {
       of_active = λ w a. 0;
-      of_job = λ w j. 0;
+      of_job = λ m w j. 0;
       of_task = λ t. task;
       of_event = λ t m. 0;
       of_section = 0;
@@ -149,7 +180,16 @@ counted_costs = with_costs counted (9 ∷ 8 ∷ 7 ∷ 6 ∷ 5 ∷ 4 ∷ 3 ∷ 2 
 -- four instructions of the task, of which the event pays for the last one, and two of the routine,
 -- which sets the event
 abbrev pub waited_costs : List Priced
-waited_costs = with_costs waited (4 ∷ 3 ∷ 3 ∷ 2 ∷ 1 ∷ 1 ∷ 3 ∷ 1 ∷ [])
+waited_costs = with_costs waited (4 ∷ 3 ∷ 2 ∷ 1 ∷ 1 ∷ 3 ∷ 1 ∷ [])
+
+-- .. which pays for it where it is set early, too
+abbrev pub waited_early : List Priced
+waited_early = with_costs waited (3 ∷ 2 ∷ 1 ∷ 1 ∷ 1 ∷ 3 ∷ 1 ∷ [])
+
+-- to its first wait the loop costs one, and each time that the event is set, ClearEvent, NOP, JMP
+-- and WaitEvent
+abbrev pub looped_costs : List Priced
+looped_costs = with_costs looped (1 ∷ 4 ∷ 3 ∷ 2 ∷ 1 ∷ [])
 
 -- ---- what they come to
 
@@ -162,13 +202,16 @@ pub record WorkedNodes : Type 0 where
   pub open_end : is_closed counting
       (at 0 (Some 0) (Some 0) (Some 0) ∷ at 1 (Some 0) (Some 3) (Some 0) ∷ []) ≡ false
   pub open_start : is_closed counting (drop 1 counted) ≡ false
-  -- the resource may be refused, and is E_OS_ACCESS then
-  pub getting : steps waiting (zero_but (Some 0) 0) ≡ zero_but (Some 1) 1 ∷ holding ∷ []
+  -- the resource, which the task lists, is refused with E_OS_ACCESS where the job holds it, and
+  -- nowhere else
+  pub getting : steps waiting (zero_but (Some 0) 0) ≡ holding ∷ []
+  pub getting_again : steps waiting (record holding { place = 0 })
+      ≡ record holding { registers = (zero_but (Some 1) 1).registers } ∷ []
   -- who holds it releases it; who doesn't is answered E_OS_NOFUNC
   pub releasing : steps waiting holding ≡ zero_but (Some 0) 2 ∷ []
   pub refused : steps waiting (zero_but (Some 1) 1) ≡ zero_but (Some 5) 2 ∷ []
   -- it goes on or waits, and while it waits it does nothing
-  pub awaiting : steps waiting (zero_but None 2) ≡ zero_but (Some 0) 3 ∷ resting ∷ []
+  pub awaiting : steps waiting (zero_but (Some 0) 2) ≡ going_on ∷ resting ∷ []
   pub at_rest : steps waiting resting ≡ []
   -- the task may have no job: E_OS_STATE
   pub setting : steps waiting (of_routine_at (Some 0) 0)
@@ -183,10 +226,21 @@ pub record WorkedNodes : Type 0 where
         registers = (zero_but (Some 32) 2).registers;
       } ∷ []
   -- one instruction a node is enough for the loop, and with less they don't pay
-  pub counting_pays : prices_pay counting 0 1 (weights 9 0) (λ t. 0) counted_costs ≡ true
-  pub too_little : prices_pay counting 0 1 (weights 8 0) (λ t. 0) counted_costs ≡ false
-  pub one_too_cheap : prices_pay counting 0 1 (weights 9 0) (λ t. 0)
+  pub counting_pays : prices_pay counting 0 1 (weights 9 0) (of_first 0 0) counted_costs ≡ true
+  pub too_little : prices_pay counting 0 1 (weights 8 0) (of_first 0 0) counted_costs ≡ false
+  pub one_too_cheap : prices_pay counting 0 1 (weights 9 0) (of_first 0 0)
       (with_costs counted (9 ∷ 8 ∷ 7 ∷ 6 ∷ 5 ∷ 5 ∷ 3 ∷ 2 ∷ 1 ∷ [])) ≡ false
-  pub waiting_pays : prices_pay waiting 0 1 (weights 4 3) (λ t. 1) waited_costs ≡ true
-  pub event_is_free : prices_pay waiting 0 1 (weights 4 3) (λ t. 0) waited_costs ≡ false
-  pub interrupt_too_cheap : prices_pay waiting 0 1 (weights 4 2) (λ t. 1) waited_costs ≡ false
+  pub waiting_pays : prices_pay waiting 0 1 (weights 4 3) (of_first 1 0) waited_costs ≡ true
+  pub event_is_free : prices_pay waiting 0 1 (weights 4 3) (of_first 0 0) waited_costs ≡ false
+  pub interrupt_too_cheap : prices_pay waiting 0 1 (weights 4 2) (of_first 1 0) waited_costs ≡ false
+  -- .. an event that is set early pays for the last instruction where it holds that
+  pub early_pays : prices_pay waiting 0 1 (weights 3 3) (of_first 1 1) waited_early ≡ true
+  pub early_is_free : prices_pay waiting 0 1 (weights 3 3) (of_first 1 0) waited_early ≡ false
+  -- the loop has a bound by what each event costs, and none where events hold nothing
+  pub looping_steps : steps looping (zero_at 0)
+      ≡ record (zero_at 1) { used = 1 } ∷ record (zero_at 1) { waits_for = Some 1 } ∷ []
+  pub looping_clears : steps looping (record (zero_at 1) { used = 1 }) ≡ zero_at 2 ∷ []
+  pub looping_closed : is_closed looping looped ≡ true
+  pub looping_pays : prices_pay looping 0 1 (weights 1 0) (of_first 4 4) looped_costs ≡ true
+  pub held_too_cheap : prices_pay looping 0 1 (weights 1 0) (of_first 4 3) looped_costs ≡ false
+  pub event_too_cheap : prices_pay looping 0 1 (weights 1 0) (of_first 3 3) looped_costs ≡ false

@@ -1,5 +1,6 @@
 //! The laws, one function each. The functions are empty: the clause is the law.
 
+ghost use Rattle.law_nodes.specs.KnownTicks.{PricesBoundAtExpiries, PricesBoundAtKnownTicks};
 ghost use Rattle.law_nodes.specs.Laws.{ClosedTablesStayKnown, RunsAreTold, StepsAreSound};
 ghost use Rattle.law_nodes.specs.Paid.{PricesBoundResponses, PricesPay};
 ghost use Rattle.law_nodes.specs.Prices.{NodesPay};
@@ -38,7 +39,15 @@ pub fn prices_bound_responses()
     ensures { PricesBoundResponses }
 {}
 
-/// Nodes of two small systems come to what was worked by hand.
+/// The same where expiries of alarms that only boot starts are counted by the known ticks that lie
+/// in a window, for each first tick before the end of the first round in which they come again; and
+/// where each such window has a number of ticks of its own, from known ticks alone.
+pub fn prices_bound_at_known_ticks()
+    ensures together { PricesBoundAtKnownTicks }
+    ensures one_by_one { PricesBoundAtExpiries }
+{}
+
+/// Nodes of three small systems come to what was worked by hand.
 pub fn worked_nodes()
     ensures { WorkedNodes }
 {}

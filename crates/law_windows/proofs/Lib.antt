@@ -11,3 +11,6 @@ pub mod Arrivals
 pub mod Analysis
 pub mod Expiring
 pub mod Routines
+pub mod KnownTicks
+pub mod AtKnownTicks
+pub mod AtExpiries

@@ -8,3 +8,4 @@ pub mod Losses
 pub mod Analysis
 pub mod Expiring
 pub mod Routines
+pub mod KnownTicks

@@ -2,6 +2,7 @@
 
 ghost use Rattle.law_windows.specs.Analysis.{AnalysisBoundsResponses, ArrivalsAreFew, LittleComes};
 ghost use Rattle.law_windows.specs.Expiring.{ExpiriesAreFew, GapsBoundResponses};
+ghost use Rattle.law_windows.specs.KnownTicks.{ExpiriesBoundResponses, KnownTicksBoundResponses};
 ghost use Rattle.law_windows.specs.Losses.{SoonStartedAreNotLost};
 ghost use Rattle.law_windows.specs.Phases.{PhasesMakeAPotential};
 ghost use Rattle.law_windows.specs.Potential.{WindowsAreShort};
@@ -73,6 +74,18 @@ pub fn expiries_are_few()
 /// runs have potentials of these costs.
 pub fn gaps_bound_responses()
     ensures { GapsBoundResponses }
+{}
+
+/// An alarm that only boot starts expires in known ticks alone. So it's enough to count those that
+/// lie in each window that may begin before the end of the first round in which they come again.
+pub fn known_ticks_bound_responses()
+    ensures { KnownTicksBoundResponses }
+{}
+
+/// Each such window by itself has as many ticks at most as are enough for it; and it's enough to
+/// look at those that begin with the run, with the round, or in a known tick.
+pub fn expiries_bound_responses()
+    ensures { ExpiriesBoundResponses }
 {}
 
 /// A routine that ends within so many instructions isn't active for so many ticks.

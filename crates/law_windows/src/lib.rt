@@ -23,6 +23,11 @@
 //! - So a number of ticks that is no less than what may be left where a window begins and all that
 //!   can come in as many ticks bounds each window, and each response
 //!   (`analysis_bounds_responses`, `gaps_bound_responses`).
+//! - An alarm that only boot starts expires in known ticks, so a window has of these alone those
+//!   that lie in it, and how alarms lie to each other counts. As known ticks come again after a
+//!   round, windows are looked at that begin before the end of the first one
+//!   (`known_ticks_bound_responses`); each by itself, and only those that begin with the run, with
+//!   the round, or in a known tick (`expiries_bound_responses`).
 //!
 //! That a system has a potential is a premise. Of costs of programs it has the first alone: a
 //! routine that ends within so many instructions isn't active longer (`routines_end_in_time`).
@@ -32,6 +37,7 @@ mod laws;
 
 pub use laws::{
     analysis_bounds_responses, arrivals_are_few, busy_ticks_lie_in_windows, expiries_are_few,
-    gaps_bound_responses, little_comes, phases_make_a_potential, responses_lie_in_windows,
-    routines_end_in_time, soon_started_are_not_lost, windows_are_short, work_stays,
+    expiries_bound_responses, gaps_bound_responses, known_ticks_bound_responses, little_comes,
+    phases_make_a_potential, responses_lie_in_windows, routines_end_in_time,
+    soon_started_are_not_lost, windows_are_short, work_stays,
 };
