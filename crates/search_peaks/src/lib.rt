@@ -3,7 +3,8 @@
 //!
 //! Noted are ages, waits and holds, blocked ticks, blockers, jobs at once, what is lost or refused,
 //! a service that is answered other than E_OK with its place and its status, and whether the run is
-//! over behind the tick.
+//! over behind the tick. Numbers that aren't of ticks may be put in besides (`Peaks::raise`,
+//! `Peaks::add_failure`).
 #![tactic(auto)]
 
 mod failures;

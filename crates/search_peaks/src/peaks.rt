@@ -11,7 +11,7 @@ ghost use Rattle.search_peaks.specs.Peaks.{AreAtLeast, no_peaks, told};
 
 use crate::failures::note_failure;
 use crate::noting::{note_figures, note_lost};
-use crate::numbers::{PLACES, number_in};
+use crate::numbers::{MAX_THINGS, PLACES, number_in, raise};
 use osek_base::System;
 use search_labels::Labels;
 use seen_ticks::{Failure, Observation};
@@ -77,6 +77,30 @@ impl Peaks {
         ensures stays { IsFalse result → self.new ≡ self.old }
     {
         note_lost(&mut self.numbers, set)
+    }
+
+    /// Raises the number of a figure to one that isn't noted of a tick. Nothing changes where it is
+    /// as great, or no system has so many things.
+    pub fn raise(&mut self, figure: Figure, number: u32)
+        ensures rises { AreAtLeast self.new self.old }
+    {
+        if figure.number < MAX_THINGS {
+            raise(
+                &mut self.numbers,
+                figure.measure,
+                figure.number,
+                Some(number),
+            );
+        }
+    }
+
+    /// Adds a service that may be answered other than E_OK, if it isn't among them. An error is
+    /// want of memory.
+    pub fn add_failure(&mut self, failure: Failure) -> Result<(), AllocError>
+        ensures rises { AreAtLeast self.new self.old }
+    {
+        note_failure(&mut self.failures, &Some(failure))?;
+        Ok(())
     }
 
     /// The number of a figure: ticks of a time, how many, and of what comes or not 1 where it has

@@ -1,0 +1,16 @@
+pub mod NumberLemmas
+pub mod EventLemmas
+pub mod FreeLemmas
+pub mod WayLemmas
+pub mod NodeLemmas
+pub mod SumLemmas
+pub mod SlowLemmas
+pub mod EnoughLemmas
+pub mod RefusalLemmas
+pub mod TellLemmas
+pub mod LengthLemmas
+pub mod LatencyLemmas
+pub mod BoundLemmas
+pub mod RefusingLemmas
+pub mod TickLemmas
+pub mod KnownBoundLemmas

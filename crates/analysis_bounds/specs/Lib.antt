@@ -1,0 +1,12 @@
+pub mod Levels
+pub mod Events
+pub mod Checks
+pub mod Pacing
+pub mod Coming
+pub mod Timing
+pub mod KnownTicks
+pub mod Windows
+pub mod Lengths
+pub mod Told
+pub mod Refusing
+pub mod Analysed

@@ -1,0 +1,28 @@
+//! What is counted of a level.
+
+/// Costs of a level: of the routines and of the tasks from a static priority upward. All are counts
+/// of instructions, so ticks.
+#[derive(Drop)]
+pub struct Level {
+    /// The least static priority of its tasks.
+    pub priority: u8,
+    /// Of an activation, by task; 0 of a task below the level.
+    pub tasks: Vec<u64>,
+    /// Of an event that is set, by task and event: of the event of bit b of task t the number
+    /// stands at `t * MAX_EVENTS + b`.
+    pub sets: Vec<u64>,
+    /// Of what follows the wait that goes on by an event that was set early, likewise.
+    pub holds: Vec<u64>,
+    /// Of the section of a task below the level that a dispatch begins.
+    pub section: u64,
+    /// Of an interrupt, by routine.
+    pub arrivals: Vec<u64>,
+    /// Of an expiry, by alarm.
+    pub expiries: Vec<u64>,
+    /// Of what may be left where a window begins with the run.
+    pub at_boot: u64,
+    /// Of what may be left where one begins later.
+    pub at_begin: u64,
+    /// Of who stands at a node, by node.
+    pub prices: Vec<u64>,
+}

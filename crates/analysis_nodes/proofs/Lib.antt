@@ -1,0 +1,4 @@
+pub mod HeldLemmas
+pub mod LinkLemmas
+pub mod ClosedLemmas
+pub mod OutcomeLemmas
