@@ -13,7 +13,7 @@ _osek_options() {
     partitions) echo '--help --in --explain --joined' ;;
     class) echo '--help --in --explain' ;;
     show) echo '--help --in --explain' ;;
-    bounds) echo '--help --in --explain --rules --apart --jitter --least --never --witness --into --witnesses --states --longest --upper --csv --json --limit --no-loss --no-refusal --progress' ;;
+    bounds) echo '--help --in --explain --rules --apart --jitter --least --never --analysis --witness --into --witnesses --states --longest --upper --csv --json --limit --no-loss --no-refusal --progress' ;;
     report) echo '--help --in --explain --output --rules --apart --jitter --least --never --states --longest --limit --no-loss --no-refusal --progress' ;;
     make) echo '--help --output --oil' ;;
     import) echo '--help --work --bend' ;;

@@ -1,4 +1,5 @@
-//! What is written of all runs of a system: bounds, or how far the search for them came.
+//! What is written of all runs of a system: bounds that are searched or counted, or how far the
+//! search for them came.
 
 ghost use Rattle.osek_base.specs.Separable.{Separable};
 
@@ -6,7 +7,8 @@ use cli_answers::{StoredRun, Texts, Verdict, system_of, write_denial};
 use cli_report::write_report;
 use cli_requests::Rules;
 use cli_tables::{
-    BoundsAsked, SearchWatch, all_rules, arriving_fault, mode_id, unknown_figure, write_found,
+    BoundsAsked, SearchWatch, all_rules, arriving_fault, mode_id, unknown_figure, write_analysed,
+    write_found,
 };
 use osek_base::System;
 use partition_check::upper_only;
@@ -65,6 +67,10 @@ fn write_upper<'v, O: Write, E: Write>(
     }
     let mode = mode_id(alloc, texts, system, asked.line.mode)?;
     let arriving = all_rules(alloc, system, asked.said)?;
+    if asked.line.is_analysed {
+        let part = upper_only(alloc, system, priority)?;
+        return write_analysed(alloc, &part, mode, &arriving, asked, out);
+    }
     let extent = extent_of(rules);
     let found = find_upper_bounds(alloc, system, priority, mode, &arriving, extent, watch)?;
     let UpperBounds { part, bounds } = found;
@@ -87,6 +93,9 @@ fn write_whole<'v, O: Write, E: Write>(
     }
     let mode = mode_id(alloc, texts, system, asked.line.mode)?;
     let arriving = all_rules(alloc, system, asked.said)?;
+    if asked.line.is_analysed {
+        return write_analysed(alloc, system, mode, &arriving, asked, out);
+    }
     let extent = extent_of(rules);
     let found = find_bounds(alloc, system, mode, &arriving, extent, watch)?;
     match asked.line.page {

@@ -24,6 +24,8 @@ pub struct BoundsLine<'a> {
     /// The priority from which on the part by itself is searched; None for the whole system.
     pub upper: Option<u8>,
     pub form: Form,
+    /// Whether it's counted what bounds all runs, and not searched.
+    pub is_analysed: bool,
     /// The figure of which a run is wanted in place of the tables, if one is.
     pub witness: Option<Wanted<'a>>,
     /// The folder that it is stored in, if it isn't written.
@@ -80,6 +82,7 @@ pub(crate) fn searched<'a>(matches: &ArgMatches<'a>) -> BoundsLine<'a> {
         mode: matches.get_str("MODE"),
         upper: matches.get_one::<u8>("upper"),
         form: form(matches),
+        is_analysed: matches.get_flag("analysis"),
         witness: figure_wanted(matches),
         into: matches.get_str("into"),
         witnesses: matches.get_str("witnesses"),

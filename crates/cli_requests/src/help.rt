@@ -174,6 +174,9 @@ pub(crate) const BOUNDS_NO_LOSS: &str = "Exits with 6 where an interrupt may be 
 pub(crate) const BOUNDS_NO_REFUSAL: &str =
     "Exits with 6 where an activation or an alarm's action may be refused";
 
+pub(crate) const ANALYSIS: &str =
+    "Counts in place of searching: bounds at once, for any number of tasks, though not always the least";
+
 pub(crate) const WITNESS: &str =
     "In place of the tables: the arrival list of a run that shows the figure; FIGURE greatest, blocked, blockers, jobs, refused, errors, latency, losses, longest, comes or the place of a service";
 

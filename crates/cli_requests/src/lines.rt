@@ -80,6 +80,12 @@ const NO_TABLES: Exclusion = Exclusion {
     others: &["csv", "json", "limit", "no-loss", "no-refusal", "witnesses"],
 };
 
+/// An analysis keeps no states, and finds no runs.
+const NO_SEARCH: Exclusion = Exclusion {
+    name: "analysis",
+    others: &["states", "longest", "witness", "witnesses"],
+};
+
 fn trace() -> Subcommand {
     Subcommand {
         name: "trace",
@@ -209,6 +215,7 @@ fn bounds() -> Subcommand {
             ],
             &ARRIVING,
             &[
+                Argument::Flag("analysis", help::ANALYSIS),
                 Argument::Option("witness", "NAME[=FIGURE]", Takes::Text, help::WITNESS),
                 Argument::Option("into", "FOLDER", Takes::Text, help::INTO),
                 Argument::Option("witnesses", "FOLDER", Takes::Text, help::WITNESSES),
@@ -223,7 +230,7 @@ fn bounds() -> Subcommand {
                 PROGRESS,
             ],
         ],
-        exclusions: &[ONE_FORM, NO_TABLES],
+        exclusions: &[ONE_FORM, NO_TABLES, NO_SEARCH],
     }
 }
 

@@ -1,5 +1,6 @@
 //! What is written of what a search has found: bounds, the run that is wanted, or how far it came.
 
+use crate::analysed::write_counted;
 use crate::asked::BoundsAsked;
 use crate::broken::broken_bounds;
 use crate::coming::write_unsaid;
@@ -71,6 +72,17 @@ pub fn verdict_of<'v>(
             remarks,
         });
     }
+    held_to(alloc, system, found, asked, remarks)
+}
+
+/// Which limits bounds break, behind remarks.
+pub(crate) fn held_to<'v>(
+    alloc: Global,
+    system: &System,
+    found: &Findings,
+    asked: BoundsAsked<'v>,
+    remarks: Vec<u8>,
+) -> Result<Verdict<'v>, RunFault> {
     let broken = broken_bounds(alloc, system, found, &asked.limits)?;
     if !broken.is_empty() {
         return Ok(Verdict::Exceeded { remarks, broken });
@@ -81,10 +93,13 @@ pub fn verdict_of<'v>(
     })
 }
 
-/// Writes how far a search came that stopped before its end, and at what.
+/// Writes how far a search came that stopped before its end, and at what; and, behind its tables,
+/// those of an analysis.
 fn write_open<'v, O: Write>(
     alloc: Global,
     system: &System,
+    mode: ModeId,
+    rules: &[ArrivalRule],
     bounds: Bounds,
     obstacle: Obstacle,
     progress: Progress,
@@ -95,6 +110,7 @@ fn write_open<'v, O: Write>(
     write_undecided(obstacle, progress, out)?;
     if asked.line.form == Form::Table && asked.line.witness.is_none() {
         write_up_to(system, asked.said, &found, progress, out)?;
+        write_counted(alloc, system, mode, rules, out)?;
     }
     verdict_of(alloc, system, &found, asked)
 }
@@ -128,7 +144,9 @@ pub fn write_found<'v, O: Write>(
     let progress = match bounds.outcome {
         Outcome::Decided(progress) => progress,
         Outcome::Undecided(obstacle, progress) => {
-            return write_open(alloc, system, bounds, obstacle, progress, asked, out);
+            return write_open(
+                alloc, system, mode, rules, bounds, obstacle, progress, asked, out,
+            );
         }
     };
     if let Some(wanted) = asked.line.witness {

@@ -1,5 +1,5 @@
-//! Writes what a search through every run has found: as tables, comma-separated values and JSON,
-//! what it means, which limits break, or a run that shows a figure.
+//! Writes what a search through every run has found, or an analysis: as tables, comma-separated
+//! values and JSON, what it means, which limits break, or a run that shows a figure.
 //!
 //! - A search's mode and rules are exactly those asked for (`mode_id`, `all_rules`).
 //! - `cell`: exactly what is told of a figure, and what that promises is so of findings
@@ -9,9 +9,11 @@
 //!   E_OK.
 //! - `broken_bounds`: exactly a line for each limit that isn't kept; so nothing exactly where all
 //!   are (`AreKept`).
+//! - What an analysis tells is written in the same forms, behind `<=`.
 //! - Tables, JSON and remarks go by the same cells. How they are laid out is tested.
 #![tactic(auto)]
 
+mod analysed;
 mod arriving;
 mod asked;
 mod broken;
@@ -22,6 +24,7 @@ mod failed_service;
 mod failed_services;
 mod found;
 mod json_text;
+mod levels;
 mod naming;
 mod numbers;
 mod remarks;
@@ -32,6 +35,7 @@ mod told;
 mod witnessing;
 mod writing;
 
+pub use analysed::write_analysed;
 pub use arriving::{all_rules, arriving_fault, said_of};
 pub use asked::{BoundsAsked, mode_id, unknown_figure};
 pub use broken::broken_bounds;
