@@ -106,6 +106,7 @@ module _ (S : System) (mode : ℕ) (arrivals : List Arrival) (proper : IsProper 
         shaped = shaped S (at n) there.good form;
         calls = calls;
         excludes = λ enabled r takes. clash (sym takes);
+        entered = tt;
         goes_on =
             sym (ap (λ (e : State). e.over) (executed_is S (at n) (RoutineCalls a) calls))
             ∙ goes_on S proper mode arrivals n later;

@@ -61,8 +61,8 @@ module _ (S : System) (longs : List Long) (s : State) (a : Active) (calls : s.ac
   abbrev e : Instr → State
   e what = (executed S (Owner.Routine a.routine) (RoutineCalls a) a.context what s).state
 
-  abbrev follows : Table → ℕ → Bool
-  follows after start = are_followed longs most after
+  abbrev follows : Table → ℕ → ℕ → Bool
+  follows after start set = are_followed longs most after
 
   abbrev Stays : Instr → Type 0
   Stays what =
@@ -99,18 +99,18 @@ module _ (S : System) (longs : List Long) (s : State) (a : Active) (calls : s.ac
       → IsActiveAs (e what).active
       (λ b. has_count longs count (of_routine (switch_of (e what)) b) ≡ true)
   goes_on all what count few going passes =
-      go _ (e what).active
+      go _ _ (e what).active
       (routine_outcome S s a calls registers used all free follows what going passes)
       (still_active what passes)
     where
       v : Switch
       v = switch_of (e what)
 
-      go : (started : ℕ) (o : Option Active) → RoutineOutcome follows v started o
+      go : (started set : ℕ) (o : Option Active) → RoutineOutcome follows v started set o
           → is_some o ≡ true
           → IsActiveAs o (λ b. has_count longs count (of_routine v b) ≡ true)
-      go started None outcome some = clash (sym some)
-      go started (Some b) outcome some =
+      go started set None outcome some = clash (sym some)
+      go started set (Some b) outcome some =
           all_followed longs outcome.next (of_routine v b) most count few outcome.own outcome.paid
 
 -- ---- a routine
@@ -147,7 +147,7 @@ module _ (S : System) (longs : List Long) (hold : lengths_hold S longs ≡ true)
 
       passes : Bool
       passes =
-          all_outcomes S free (λ after start. are_followed longs q.count after) what there
+          all_outcomes S free (λ after start set. are_followed longs q.count after) what there
 
   next_count : (s : State) (a : Active) → Executes S (RoutineCalls a) s → (count : ℕ)
       → 1 ≤ count → has_count longs (suc count) (of_routine (switch_of s) a) ≡ true

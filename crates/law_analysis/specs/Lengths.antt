@@ -43,7 +43,7 @@ is_followed longs count m = list_any (λ q. covers q.node m && nat_le count (q.c
 abbrev pub are_followed : List Long → ℕ → Table → Bool
 are_followed longs count next = not (is_empty next) && list_all (is_followed longs count) next
 
--- no costs of what is started
+-- no costs of what is started and set
 abbrev pub free : Weights
 free =
     record {
@@ -52,6 +52,7 @@ free =
       of_task = λ t. 0;
       of_event = λ t m. 0;
       of_section = 0;
+      of_alarm = λ a. 0;
       costs =
           record { of_arrival = λ i. 0; of_expiry = λ a. 0; at_boot = 0; at_begin = 0 };
     }
@@ -66,7 +67,7 @@ is_of_task (Owner.Routine i) = false
 abbrev pub is_long_at : System → List Long → ℕ → Node → Bool
 is_long_at S longs count n =
     is_of_task n.owner || is_some n.waits_for || nat_le count 1
-    || all_outcomes S free (λ next start. are_followed longs count next)
+    || all_outcomes S free (λ next start set. are_followed longs count next)
     (instruction_at S n.owner n.place) n
 
 -- .. at each

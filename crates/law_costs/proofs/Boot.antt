@@ -18,9 +18,10 @@ use Rattle.law_runs.proofs.RankedMoves.{made_job}
 use Rattle.law_runs.proofs.Single.{IsSingle}
 use Rattle.law_runs.proofs.SingleTick.{begun, begun_single, first_single, started_keep}
 use Rattle.law_windows.proofs.Losses.{all_pending, none_on}
-use Rattle.law_costs.specs.Left.{Weights, counts, left, left_of_active, left_of_job, left_of_jobs, left_of_pending, on, switch_of}
+use Rattle.law_costs.specs.Left.{Weights, counts, left, left_of_active, left_of_job, left_of_jobs, left_of_pending, of_all_alarms, on, switch_of}
 use Rattle.law_costs.specs.Known.{Known}
 use Rattle.law_costs.specs.Paying.{PayForBoot, PayForDispatch, PayForStarts, is_upper}
+use Rattle.law_costs.proofs.Alarms.{no_more}
 use Rattle.law_costs.proofs.Dispatch.{high_parts, is_high, reschedule_less}
 use Rattle.law_costs.proofs.Events.{IsAlike, alike_left, set_other, set_zero}
 use Rattle.law_costs.proofs.Switches.{all_on}
@@ -172,7 +173,8 @@ module _ (S : System) (p : ℕ) (c : Weights) (known : Known)
       j.id.task)) in
       let sums = all_started (starting_tasks S mode) (begun S proper mode) in
       let low = either (list_any (λ j. counts S p on j) started.jobs) sums in
-      omega (arith, last, active, pending, jobs, none, low)
+      let held = no_more S c started.alarms in
+      omega (arith, last, active, pending, jobs, none, low, held)
     where
       either : (b : Bool)
           → sum_by by
@@ -183,6 +185,7 @@ module _ (S : System) (p : ℕ) (c : Weights) (known : Known)
           (sum_by by
           (all_activated S (starting_tasks S mode) (begun S proper mode)).jobs)
           c.of_section
+          + of_all_alarms S c
           ≤ c.costs.at_boot
       either true sums = let pay = pays.tasks in omega (arith, sums, pay)
       either false sums = pays.section

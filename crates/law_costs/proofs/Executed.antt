@@ -23,7 +23,7 @@ use Rattle.law_costs.proofs.Switches.{some_moved}
 use Rattle.law_costs.proofs.Running.{IsHeld}
 use Rattle.law_costs.proofs.Totals.{found_counts}
 
-refused : (S : System) (s : State) (who : Caller) (call : ServiceCall) → interrupts_off s ≡ true
+pub refused : (S : System) (s : State) (who : Caller) (call : ServiceCall) → interrupts_off s ≡ true
     → (service S who s call).state.jobs ≡ s.jobs
 unfolding service
 refused S s who call off =

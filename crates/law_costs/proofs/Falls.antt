@@ -33,7 +33,7 @@ use Rattle.law_costs.proofs.Jobs.{jobs_pay}
 use Rattle.law_costs.proofs.InTicks.{at_form, executing}
 use Rattle.law_costs.proofs.KnownStarts.{starts_pay}
 use Rattle.law_costs.proofs.Known.{at_known, known_jobs_pay, known_routines_pay, run_known}
-use Rattle.law_costs.proofs.KnownSetting.{set_no_sooner}
+use Rattle.law_costs.proofs.KnownSetting.{once_in_runs, set_no_sooner}
 use Rattle.law_costs.proofs.Positive.{something_left}
 use Rattle.law_costs.proofs.Ticks.{before_adds, behind_less}
 use Rattle.law_costs.proofs.Totals.{sum_within}
@@ -90,6 +90,7 @@ module _ (S : System) (mode : ℕ) (arrivals : List Arrival) (p : ℕ) (c : Weig
         jobs = (run_known S known proper stays mode arrivals n going).jobs;
         unmet = run_unmet S proper mode arrivals n going;
       })
+      (once_in_runs S mode arrivals known proper stays c pay.once n going)
       in
       let same = ap (left S p c) (executing_is S mode arrivals n going) in
       let due = due_cost n going in

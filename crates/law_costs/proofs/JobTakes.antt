@@ -18,10 +18,12 @@ use Rattle.law_runs.proofs.Lists.{all_any, any_none, found, pairs_weaker}
 use Rattle.law_runs.proofs.RankedTick.{IsRunState}
 use Rattle.law_runs.proofs.Single.{IsSingle, IsSoundPair}
 use Rattle.law_runs.proofs.SingleMoves.{other_way}
-use Rattle.law_costs.specs.Left.{Switch, Weights, counts, is_off, left, left_of_active, left_of_job, left_of_jobs, left_of_pending, on, switch_for, switch_of}
-use Rattle.law_costs.specs.Jobs.{PaysIn, behind, left_behind, left_of_own, left_of_section, started}
+use Rattle.law_costs.specs.Left.{Switch, Weights, counts, is_off, left, left_of_active, left_of_alarms, left_of_job, left_of_jobs, left_of_pending, on, switch_for, switch_of}
+use Rattle.law_costs.specs.Jobs.{PaysIn, behind, left_behind, left_of_own, left_of_section, set, started}
+use Rattle.law_costs.proofs.Alarms.{no_more}
 use Rattle.law_costs.proofs.JobStarts.{left_of_others, others_add}
 use Rattle.law_costs.proofs.Parts.{of_found, sum_apart}
+use Rattle.law_costs.proofs.SetAlarms.{instruction_sets}
 use Rattle.law_costs.proofs.Starts.{StartsPay}
 use Rattle.law_costs.proofs.Switches.{idle_on}
 use Rattle.law_costs.proofs.Totals.{found_counts}
@@ -136,6 +138,9 @@ module _ (S : System) (p : ℕ) (c : Weights) (s : State) (starts : StartsPay S 
       ≤ left_of_others S p c s.masks j.id s.jobs + started S c s j
   others_more = others_add S p c s starts good j calls (owner_of j) j.context (next_of S j)
 
+  alarms_more : left_of_alarms S c e.alarms ≤ left_of_alarms S c s.alarms + set S c s j
+  alarms_more = instruction_sets S c s (owner_of j) (JobCalls j) j.context (next_of S j)
+
   -- what is left of the job itself is told by what is asked of it
   own_less : (o : Option Job) → job_of j.id e.jobs ≡ o
       → of_found (left_of_job S p c e.masks (switch_for e)) o
@@ -229,7 +234,8 @@ module _ (S : System) (p : ℕ) (c : Weights) (s : State) (starts : StartsPay S 
       ap (λ b. cond b (sum_by (left_of_job S p c s.masks (switch_for s)) s.jobs) c.of_section)
       (found_counts (counted s) (λ k. same_id k.id j.id) s.jobs j calls.found
       (ap (λ w. counts S p w j) own ∙ counting)) in
-      omega (arith, take, idle, none, pending, jobs, whole, found, some)
+      let held = alarms_more in
+      omega (arith, take, idle, none, pending, jobs, whole, found, some, held)
     where
       cost : Switch → ℕ
       cost w = c.of_job (slice_index s.masks j.id.task) w j
@@ -244,4 +250,5 @@ module _ (S : System) (p : ℕ) (c : Weights) (s : State) (starts : StartsPay S 
       let none = unactive e after.idle in
       let pending = same_pending in
       let jobs = jobs_behind stands in
-      omega (arith, begin, none, pending, jobs, quiet, alone)
+      let held = no_more S c e.alarms in
+      omega (arith, begin, none, pending, jobs, quiet, alone, held)

@@ -18,6 +18,7 @@ use Rattle.law_costs.specs.Routines.{PayForRoutines}
 use Rattle.law_costs.specs.Jobs.{PayForJobs}
 use Rattle.law_costs.specs.Laws.{RunsAreKnown}
 use Rattle.law_costs.proofs.Boot.{all_active, boot_state}
+use Rattle.law_costs.proofs.Entered.{IsEntered, StaysTaken, before_entered, taken_lasts}
 use Rattle.law_costs.proofs.Instructions.{PayForRunJobs, PayForRunRoutines}
 use Rattle.law_costs.proofs.InTicks.{at_form, at_is, executing, goes_on}
 use Rattle.law_costs.proofs.JobsKeep.{Each, activated_keeps}
@@ -29,6 +30,7 @@ module _ (S : System) (known : Known) (proper : IsProper S) (stays : StaysKnown 
   record IsBooting (s : State) : Type 0 where
     pub good : IsRunState S s
     pub jobs : Each S (IsKnownThere S known) s
+    pub taken : Each S (StaysTaken S) s
 
   boot_known : (mode : ℕ) → HasKnown S known (boot S mode).state
   unfolding boot
@@ -40,14 +42,16 @@ module _ (S : System) (known : Known) (proper : IsProper S) (stays : StaysKnown 
         jobs =
             activated_keeps S (IsKnownThere S known) (known_lasts S known proper stays) t s h.good
             h.jobs;
+        taken = activated_keeps S (StaysTaken S) (taken_lasts S) t s h.good h.taken;
       })
-      mode (record { good = begun_ordered S proper mode; jobs = tt }) in
+      mode (record { good = begun_ordered S proper mode; jobs = tt; taken = tt }) in
       reschedule_known S known proper stays started ready.good.single ready.good.ordered.ranked
       (record {
         jobs = ready.jobs;
         active =
             subst (λ o. IfSome o (IsKnownRoutine known (switch_of started)))
             (sym (all_active S (starting_tasks S mode) (begun S proper mode))) tt;
+        taken = ready.taken;
       })
     where
       started : State
@@ -85,6 +89,12 @@ module _ (S : System) (known : Known) (proper : IsProper S) (stays : StaysKnown 
         (before_known S known proper stays (arriving arrivals n) (here n)
         (run_ordered S proper mode arrivals n) (run_known n going))
 
+    at_entered : (n : ℕ) → (here n).over ≡ false
+        → IsEntered S (at_instruction S mode arrivals n)
+    at_entered n going =
+        subst (IsEntered S) (at_is S proper mode arrivals n going)
+        (before_entered S (arriving arrivals n) (here n))
+
     module _ (n : ℕ) (going : (here n).over ≡ false) where
       abbrev at : State
       at = at_instruction S mode arrivals n
@@ -92,13 +102,13 @@ module _ (S : System) (known : Known) (proper : IsProper S) (stays : StaysKnown 
       at_job : (j : Job) → executor at ≡ JobCalls j → IsKnownJob known (switch_of at) j
       at_job =
           job_known S known proper stays at (executing S proper mode arrivals n going)
-          (at_form S proper mode arrivals n going) (at_known n going)
+          (at_form S proper mode arrivals n going) (at_entered n going) (at_known n going)
 
       at_routine : (a : Active) → executor at ≡ RoutineCalls a
           → IsKnownRoutine known (switch_of at) a
       at_routine =
           routine_known S known proper stays at (executing S proper mode arrivals n going)
-          (at_form S proper mode arrivals n going) (at_known n going)
+          (at_form S proper mode arrivals n going) (at_entered n going) (at_known n going)
 
       pub who_is_known : IsKnownAt S mode arrivals known n
       who_is_known = go (executor at) refl
@@ -114,8 +124,8 @@ module _ (S : System) (known : Known) (proper : IsProper S) (stays : StaysKnown 
     at_executes n later who is =
         executes S known proper stays (at_instruction S mode arrivals n)
         (executing S proper mode arrivals n (going n later))
-        (at_form S proper mode arrivals n (going n later)) (at_known n (going n later))
-        (goes_on S proper mode arrivals n later) who is
+        (at_form S proper mode arrivals n (going n later)) (at_entered n (going n later))
+        (at_known n (going n later)) (goes_on S proper mode arrivals n later) who is
 
     pub known_jobs_pay : (p : ℕ) (c : Weights) → PayForJobs S p c known
         → PayForRunJobs S mode arrivals p c

@@ -7,7 +7,7 @@ use Rattle.osek_base.specs.Lists.{below, is_foremost}
 use Rattle.osek_base.specs.Proper.{IsProper}
 use Rattle.osek_base.specs.Reschedule.{reschedule}
 use Rattle.osek_base.specs.Service.{Caller, JobCalls, NobodyCalls, RoutineCalls, unasked_service}
-use Rattle.osek_base.specs.State.{Active, Job, JobId, State, fresh_context, may_dispatch, same_id}
+use Rattle.osek_base.specs.State.{Active, Job, JobId, State, fresh_context, interrupts_off, may_dispatch, same_id}
 use Rattle.osek_base.specs.System.{System, routine}
 use Rattle.osek_base.specs.Tick.{alarm_acts, alarm_phase, alarms_act, arrival_phase, before_execution, caller_executes, execute_phase, executor, is_pending, last_phase, routine_choice, routine_started, silent, start_phase, tick, with_start_of}
 use Rattle.law_runs.proofs.Foremost.{same_self}
@@ -20,14 +20,15 @@ use Rattle.law_runs.proofs.Ranked.{AreRanked}
 use Rattle.law_runs.proofs.RankedTick.{IsExecuting, IsRunState, alarm_phase_ordered, before_executing, execute_left}
 use Rattle.law_runs.proofs.Single.{IsSingle}
 use Rattle.law_runs.proofs.SingleTick.{execute_single}
-use Rattle.law_costs.specs.Left.{Switch, switch_for, switch_of}
-use Rattle.law_costs.specs.Known.{Executes, IsKnownJob, IsKnownRoutine, Known, StaysKnown}
+use Rattle.law_costs.specs.Left.{Switch, is_off, switch_for, switch_of}
+use Rattle.law_costs.specs.Known.{Executes, IsKnownJob, IsKnownRoutine, Known, StaysKnown, TakesInternal}
 use Rattle.law_costs.specs.Jobs.{behind}
+use Rattle.law_costs.proofs.Entered.{HasTaken, IsEntered, StaysTaken, before_entered, own_taken, taken_lasts}
 use Rattle.law_costs.proofs.Excluding.{excludes_others}
 use Rattle.law_costs.proofs.InstructionKeeps.{job_keeps, routine_keeps}
 use Rattle.law_costs.proofs.InTicks.{executed_is}
 use Rattle.law_costs.proofs.JobsKeep.{Each, Lasts, alarm_phase_keeps, reschedule_keeps, start_keeps}
-use Rattle.law_costs.proofs.JobTakes.{behind_active, own_switch}
+use Rattle.law_costs.proofs.JobTakes.{behind_active, behind_running, own_switch}
 use Rattle.law_costs.proofs.Switches.{dispatching}
 
 module _ (S : System) (known : Known) where
@@ -41,6 +42,7 @@ module _ (S : System) (known : Known) where
   pub record HasKnown (s : State) : Type 0 where
     pub jobs : Each S IsKnownThere s
     pub active : KnownActive s
+    pub taken : Each S (StaysTaken S) s
 
   -- the task of each job of a run exists
   pub known_jobs : (s : State) → HasForm S s → Each S IsKnownThere s
@@ -105,6 +107,7 @@ module _ (S : System) (known : Known) where
     reschedule_known s single ranked here = record {
       jobs = reschedule_keeps S IsKnownThere known_lasts s single ranked here.jobs;
       active = reschedule_active s here.active;
+      taken = reschedule_keeps S (StaysTaken S) (taken_lasts S) s single ranked here.taken;
     }
 
     pub before_known : (arrived : List ℕ) (s : State) → IsRunState S s → HasKnown s
@@ -112,6 +115,7 @@ module _ (S : System) (known : Known) where
     before_known arrived s good here = record {
       jobs = start_keeps S IsKnownThere there dispatched.jobs;
       active = start_active there dispatched.active;
+      taken = start_keeps S (StaysTaken S) there dispatched.taken;
     }
       where
         raised : State
@@ -129,6 +133,8 @@ module _ (S : System) (known : Known) where
             (record {
               jobs = alarm_phase_keeps S IsKnownThere known_lasts proper s good here.jobs;
               active = alarms_active s here.active;
+              taken =
+                  alarm_phase_keeps S (StaysTaken S) (taken_lasts S) proper s good here.taken;
             })
 
     last_known : (e : State) → IsSingle S e → AreRanked S e.running e.jobs → HasKnown e
@@ -142,7 +148,7 @@ module _ (S : System) (known : Known) where
     -- ---- phase 5
 
     module _ (s : State) (executing : IsExecuting S proper s) (form : HasForm S s)
-        (here : HasKnown s) where
+        (entered : IsEntered S s) (here : HasKnown s) where
       -- who executes is known
       pub job_known : (j : Job) → executor s ≡ JobCalls j → IsKnownJob known (switch_of s) j
       job_known j is =
@@ -159,6 +165,25 @@ module _ (S : System) (known : Known) where
           subst (λ o. IfSome o (IsKnownRoutine known (switch_of s)))
           (subst (IsCaller s) is (executor_calls s)) here.active
 
+      -- .. and has taken its internal resource
+      job_taken : (j : Job) → IsRunningCaller s j → HasTaken S j
+      job_taken j calls = go (interrupts_off s) refl
+        where
+          go : (b : Bool) → interrupts_off s ≡ b → HasTaken S j
+          go false on = entered on j calls
+          go true off =
+              (found (λ k. StaysTaken S s.running (switch_for s k) k) (λ k. same_id k.id j.id)
+              s.jobs j here.taken calls.found).0
+              (ap is_off
+              (own_switch S s j.id (record { idle = calls.idle; runs = calls.runs }) j
+              (same_self j.id))
+              ∙ off)
+
+      who_taken : (who : Caller) → IsCaller s who → TakesInternal S who
+      who_taken (JobCalls j) calls = job_taken j calls
+      who_taken (RoutineCalls a) calls = tt
+      who_taken NobodyCalls calls = tt
+
       module _ (goes_on : (execute_phase S s).state.over ≡ false) where
         pub executes : (who : Caller) → executor s ≡ who → Executes S who s
         executes who is = record {
@@ -168,6 +193,7 @@ module _ (S : System) (known : Known) where
           excludes =
               excludes_others S proper s executing who
               (subst (IsCaller s) is (executor_calls s));
+          entered = who_taken who (subst (IsCaller s) is (executor_calls s));
           goes_on = sym (ap (λ (e : State). e.over) (executed_is S s who is)) ∙ goes_on;
         }
 
@@ -184,10 +210,19 @@ module _ (S : System) (known : Known) where
           active =
               subst (λ o. IfSome o (IsKnownRoutine known (switch_of (behind S s j))))
               (sym (behind_active S s j calls.idle)) tt;
+          taken =
+              job_keeps S (StaysTaken S) (taken_lasts S) s executing.good here.taken j calls
+              (subst (IsSingle S) (executed_is S s (JobCalls j) is)
+              (execute_single S proper s executing.good.single))
+              (λ k own there.
+              subst (λ o. StaysTaken S o (switch_of (behind S s j)) k)
+              (sym (behind_running S s j)) (own_taken S s j calls (job_taken j calls) k there));
         }
         by_caller (RoutineCalls a) is calls = record {
           jobs = routine_keeps S IsKnownThere known_lasts s executing.good here.jobs a calls;
           active = stays.routine s a (executes (RoutineCalls a) is) (routine_known a is);
+          taken =
+              routine_keeps S (StaysTaken S) (taken_lasts S) s executing.good here.taken a calls;
         }
         by_caller NobodyCalls is calls = here
 
@@ -210,5 +245,6 @@ module _ (S : System) (known : Known) where
     tick_known arrived s good form here goes_on =
         let last =
         from_known (before_execution S arrived s).state (before_executing S proper arrived s good)
-        (before_form S proper arrived s form) (before_known arrived s good here) goes_on in
-        record { jobs = last.jobs; active = last.active }
+        (before_form S proper arrived s form) (before_entered S arrived s)
+        (before_known arrived s good here) goes_on in
+        record { jobs = last.jobs; active = last.active; taken = last.taken }

@@ -1,6 +1,8 @@
 pub mod Totals
 pub mod Parts
 pub mod Switches
+pub mod Alarms
+pub mod SetAlarms
 pub mod Dispatch
 pub mod Events
 pub mod Flags
@@ -26,6 +28,7 @@ pub mod Quiet
 pub mod Executor
 pub mod Jobs
 pub mod Excluding
+pub mod Entered
 pub mod KnownTick
 pub mod Waiting
 pub mod Unmet

@@ -1,6 +1,6 @@
 -- Jobs below a level: none but the running one is raised to that one's priority, and of none that
 -- counts more is left than may be where a window begins.
-use Rattle.std.proofs.Common.{ℕ, ◌≡◌, ◌<◌, ◌≤◌, inl, inr, true, false, cond, sym, ◌∙◌, ap, subst, arith}
+use Rattle.std.proofs.Common.{ℕ, ◌≡◌, ◌<◌, ◌≤◌, ◌+◌, inl, inr, true, false, cond, sym, ◌∙◌, ap, subst, arith}
 use Rattle.std.specs.Prelude.{Option, Some, slice_index}
 use Rattle.std.proofs.lemmas.Bool.{cases_lt}
 use Rattle.osek_base.specs.GoodState.{is_raised}
@@ -13,7 +13,7 @@ use Rattle.law_runs.proofs.Known.{IsRunningCaller}
 use Rattle.law_runs.proofs.Lists.{clash, none_some, some_inside}
 use Rattle.law_runs.proofs.Ranked.{IsUnder}
 use Rattle.law_runs.proofs.RankedMoves.{IsNewest}
-use Rattle.law_costs.specs.Left.{Switch, Weights, counts, on, switch_of}
+use Rattle.law_costs.specs.Left.{Switch, Weights, counts, of_all_alarms, on, switch_of}
 use Rattle.law_costs.specs.Paying.{PayForDispatch}
 use Rattle.law_costs.specs.Jobs.{PaysIn, behind, left_behind, left_of_own, left_of_section}
 use Rattle.law_costs.proofs.Dispatch.{high, high_parts}
@@ -26,9 +26,9 @@ module _ (S : System) (p : ℕ) (c : Weights) where
     -- where another one runs, it isn't raised to that one's priority
     pub beneath : (r : JobId) → running ≡ Some r → same_id k.id r ≡ false
         → is_raised S k ≡ true → dynamic_priority S k < priority_of S r.task
-    -- where it is below the level and counts, little is left of it
+    -- where it is below the level and counts, little is left of it, whatever alarms are set
     pub little : (m : ℕ) → priority_of S k.id.task < p → counts S p w k ≡ true
-        → c.of_job m w k ≤ c.costs.at_begin
+        → c.of_job m w k + of_all_alarms S c ≤ c.costs.at_begin
 
   abbrev pub AreLow : State → Type 0
   AreLow s = Each S IsLow s
@@ -55,7 +55,7 @@ module _ (S : System) (p : ℕ) (c : Weights) where
     }
       where
         little : (m : ℕ) → priority_of S k.id.task < p → p ≤ dynamic_priority S (entered S k)
-            → c.of_job m on (entered S k) ≤ c.costs.at_begin
+            → c.of_job m on (entered S k) + of_all_alarms S c ≤ c.costs.at_begin
         little m low there = elim (cases_lt (dynamic_priority S k) p) [
           | inl under ↦
               let begin = pays.beginning m k ready under there in

@@ -1,5 +1,5 @@
 -- A state in which no work stands: what is left is that of a running job below the level.
-use Rattle.std.proofs.Common.{ℕ, ◌≡◌, ◌<◌, ◌≤◌, inl, inr, Bool, true, false, cond, not, ◌&&◌, ◌||◌, refl, sym, ◌∙◌, ap, arith}
+use Rattle.std.proofs.Common.{ℕ, ◌≡◌, ◌<◌, ◌≤◌, ◌+◌, inl, inr, Bool, true, false, cond, not, ◌&&◌, ◌||◌, refl, sym, ◌∙◌, ap, arith}
 use Rattle.std.specs.Prelude.{Option, Some, None, is_some, nat_le, slice_index}
 use Rattle.std.specs.List.{AllByRecursion, list_any, sum_by}
 use Rattle.std.proofs.lemmas.Bool.{cases_lt, le-leb}
@@ -10,7 +10,8 @@ use Rattle.law_runs.proofs.Lists.{all_both, all_weaker, any_none, clash, found}
 use Rattle.law_runs.proofs.Ranked.{raised_above}
 use Rattle.law_runs.proofs.RankedTick.{IsRunState}
 use Rattle.law_windows.specs.Work.{has_work, is_work}
-use Rattle.law_costs.specs.Left.{Weights, counts, is_off, left, left_of_active, left_of_job, left_of_jobs, on, switch_for, switch_of}
+use Rattle.law_costs.specs.Left.{Weights, counts, is_off, left, left_of_active, left_of_job, left_of_jobs, of_all_alarms, on, switch_for, switch_of}
+use Rattle.law_costs.proofs.Alarms.{no_more}
 use Rattle.law_costs.proofs.Dispatch.{high_parts}
 use Rattle.law_costs.proofs.JobStarts.{left_of_others}
 use Rattle.law_costs.proofs.JobTakes.{Runs, sum_is}
@@ -59,7 +60,8 @@ lower S p k ready none = elim (cases_lt (priority_of S k.id.task) p) [
 
 -- where no job is ready, the section that a dispatch may begin stands for them
 pub none_counts_left : (S : System) (p : ℕ) (c : Weights) (s : State) → IsUnbusy S p s
-    → IsResting s → c.of_section ≤ c.costs.at_begin → left S p c s ≤ c.costs.at_begin
+    → IsResting s → c.of_section + of_all_alarms S c ≤ c.costs.at_begin
+    → left S p c s ≤ c.costs.at_begin
 none_counts_left S p c s quiet rests section =
     let active : left_of_active c (switch_of s) s.active ≡ 0 =
     ap (left_of_active c (switch_of s)) quiet.active in
@@ -71,7 +73,8 @@ none_counts_left S p c s quiet rests section =
     (λ k h.
     ap (λ b. not b && (is_off (switch_for s k) || nat_le p (dynamic_priority S k))) h)
     rests.none)) in
-    omega (arith, active, pending, none, section)
+    let held = no_more S c s.alarms in
+    omega (arith, active, pending, none, section, held)
 
 module _ (S : System) (p : ℕ) (c : Weights) (s : State) (good : IsRunState S s)
     (low : AreLow S p c s) (quiet : IsUnbusy S p s) (j : Job) (runs : Runs s j.id)
@@ -112,32 +115,38 @@ module _ (S : System) (p : ℕ) (c : Weights) (s : State) (good : IsRunState S s
       (all_both (λ k. is_work S p k ≡ false) (λ k. IsLow S p c s.running (switch_for s k) k) s.jobs
       quiet.jobs low))
 
-  -- and of it no more than may be where a window begins
-  own_little : of_found (left_of_job S p c s.masks (switch_for s)) (Some j) ≤ c.costs.at_begin
-  own_little = go (counts S p (switch_for s j) j) refl
+  -- and of it, and of all alarms, no more than may be where a window begins
+  own_little : c.of_section + of_all_alarms S c ≤ c.costs.at_begin
+      → of_found (left_of_job S p c s.masks (switch_for s)) (Some j) + of_all_alarms S c
+      ≤ c.costs.at_begin
+  own_little section = go (counts S p (switch_for s j) j) refl
     where
       go : (b : Bool) → counts S p (switch_for s j) j ≡ b
           → cond b (c.of_job (slice_index s.masks j.id.task) (switch_for s j) j) 0
+          + of_all_alarms S c
           ≤ c.costs.at_begin
-      go false is = omega arith
+      go false is = omega (arith, section)
       go true is = (member (λ k. IsLow S p c s.running (switch_for s k) k) low).little
           (slice_index s.masks j.id.task) is_lower is
 
-  pub little_left : c.of_section ≤ c.costs.at_begin → left S p c s ≤ c.costs.at_begin
+  pub little_left : c.of_section + of_all_alarms S c ≤ c.costs.at_begin
+      → left S p c s ≤ c.costs.at_begin
   little_left section =
       let active : left_of_active c (switch_of s) s.active ≡ 0 =
       ap (left_of_active c (switch_of s)) quiet.active in
       let pending = none_left S c s quiet.pending in
       let jobs = go (list_any (λ k. counts S p (switch_for s k) k) s.jobs) in
-      omega (arith, active, pending, jobs)
+      let held = no_more S c s.alarms in
+      omega (arith, active, pending, jobs, held)
     where
       go : (b : Bool)
           → cond b (sum_by (left_of_job S p c s.masks (switch_for s)) s.jobs) c.of_section
+          + of_all_alarms S c
           ≤ c.costs.at_begin
       go true =
           let whole = sum_is S p c s j.id runs good.single in
           let beside = none_beside in
-          let own = own_little in
+          let own = own_little section in
           let same : of_found (left_of_job S p c s.masks (switch_for s)) (job_of j.id s.jobs)
           ≡ of_found (left_of_job S p c s.masks (switch_for s)) (Some j) =
           ap (of_found (left_of_job S p c s.masks (switch_for s))) there in

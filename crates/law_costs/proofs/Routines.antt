@@ -23,6 +23,7 @@ use Rattle.law_costs.specs.Left.{Weights, left, left_of_active, left_of_jobs, le
 use Rattle.law_costs.specs.Paying.{start_of}
 use Rattle.law_costs.specs.Routines.{TakesIn, started_by, started_where}
 use Rattle.law_costs.proofs.Events.{room}
+use Rattle.law_costs.proofs.SetAlarms.{instruction_sets}
 use Rattle.law_costs.proofs.Starts.{StartsPay, activated_adds, may_set, set_adds}
 use Rattle.law_costs.proofs.Switches.{behind_routine, find_on}
 
@@ -130,4 +131,5 @@ module _ (S : System) (p : ℕ) (c : Weights) (s : State) (starts : StartsPay S 
       ap (λ find. left_of_jobs S p c behind.masks find behind.jobs)
       (find_on S s a is owner a.context what ∙ sym (behind_routine s (ap is_some is))) in
       let jobs = jobs_add owner a.context what in
-      omega (arith, same, take, active, pending, find, jobs)
+      let held = instruction_sets S c s owner (RoutineCalls a) a.context what in
+      omega (arith, same, take, active, pending, find, jobs, held)

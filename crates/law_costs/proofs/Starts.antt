@@ -22,10 +22,11 @@ use Rattle.law_runs.proofs.RankedMoves.{made_job, made_newest}
 use Rattle.law_runs.proofs.RankedTick.{IsRunState}
 use Rattle.law_runs.proofs.Single.{IsSingle, IsSoundJob}
 use Rattle.law_blockers.proofs.RestampedLemmas.{first_task, found_there, released_jobs, those_of}
-use Rattle.law_costs.specs.Left.{Switch, Weights, counts, is_off, left, left_of_job, left_of_jobs, on, switch_for}
+use Rattle.law_costs.specs.Left.{Switch, Weights, counts, is_off, left, left_of_alarms, left_of_job, left_of_jobs, on, switch_for}
 use Rattle.law_costs.specs.Paying.{start_of}
 use Rattle.law_costs.proofs.Dispatch.{high_parts, is_high}
 use Rattle.law_costs.proofs.Events.{IsAlike, IsRaised, activated_alike, activated_clear, activated_jobs, alike_left, mask_of, mask_set, masks_set, others_alike, raised_left, room}
+use Rattle.law_costs.proofs.SetAlarms.{activated_alarms, event_stays}
 use Rattle.law_costs.proofs.Switches.{idle_on}
 use Rattle.law_costs.proofs.Totals.{total_kept, total_more}
 
@@ -274,7 +275,8 @@ module _ (S : System) (p : ℕ) (c : Weights) (s : State) (pays : StartsPay S p 
           let more =
           activated_adds good.single t
           (room S t s pays.proper (passed (is_full S s t) Status.Limit [] none).0) in
-          omega (arith, more)
+          let held = ap (left_of_alarms S c) (activated_alarms S t s) in
+          omega (arith, more, held)
       go (Some refusal) some = omega arith
   action_adds (Action.SetEvent t x) good =
       go (first_refusal (refusals S NobodyCalls s (Service.SetEvent (Some t) x))) refl
@@ -287,5 +289,6 @@ module _ (S : System) (p : ℕ) (c : Weights) (s : State) (pays : StartsPay S p 
           let more =
           set_adds good.single good.ordered.ranked.still good.ordered.ready t x
           (may_set S s t x NobodyCalls none) in
-          omega (arith, more)
+          let held = ap (left_of_alarms S c) (event_stays s t x) in
+          omega (arith, more, held)
       go (Some refusal) some = omega arith

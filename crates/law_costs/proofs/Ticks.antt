@@ -18,6 +18,7 @@ use Rattle.law_runs.proofs.SingleTick.{execute_single}
 use Rattle.law_costs.specs.Left.{Weights, left}
 use Rattle.law_costs.specs.Known.{Known, StaysKnown}
 use Rattle.law_costs.specs.Paying.{PayForComing, PayForDispatch, PayForStarts}
+use Rattle.law_costs.proofs.Alarms.{AreToExpireOnce, advanced_less}
 use Rattle.law_costs.proofs.Dispatch.{reschedule_less}
 use Rattle.law_costs.proofs.Flags.{arrivals_add, start_less}
 use Rattle.law_costs.proofs.KnownStarts.{MayAct, acted_may, advanced_may, starts_pay}
@@ -28,7 +29,8 @@ module _ (S : System) (p : ℕ) (c : Weights) (known : Known) (proper : IsProper
     (coming : PayForComing S c) where
   alarms_add : (due : List ℕ) → AllByRecursion (λ a. a < length S.alarms) due → (s : State)
       → MayAct S known s
-      → left S p c (alarms_act S due s).state ≤ left S p c s + sum_by c.costs.of_expiry due
+      → left S p c (alarms_act S due s).state
+      ≤ left S p c s + (sum_by c.costs.of_expiry due + sum_by c.of_alarm due)
   alarms_add [] all s may = omega arith
   alarms_add (a ∷ due) all s may =
       let one =
@@ -38,32 +40,38 @@ module _ (S : System) (p : ℕ) (c : Weights) (known : Known) (proper : IsProper
       let rest =
       alarms_add due all.1 (alarm_acts S a s).state
       (acted_may S known proper stays a all.0 s may) in
-      let whole = sum_by-cons c.costs.of_expiry a due in
-      omega (arith, one, pay, rest, whole)
+      let expiries = sum_by-cons c.costs.of_expiry a due in
+      let held = sum_by-cons c.of_alarm a due in
+      omega (arith, one, pay, rest, expiries, held)
 
-  alarm_phase_adds : (s : State) → MayAct S known s
+  -- alarms that pay hold what their expiry starts
+  alarm_phase_adds : (s : State) → MayAct S known s → AreToExpireOnce S c s
       → left S p c (alarm_phase S s).state
       ≤ left S p c s + sum_by c.costs.of_expiry (due_alarms S s)
   unfolding alarm_phase
-  alarm_phase_adds s may =
+  alarm_phase_adds s may only =
+      let adds =
       alarms_add (due_alarms S s)
       (all_kept (λ a. a < length S.alarms) (is_due S s) (below (length S.alarms))
       (all_below (length S.alarms)))
       (record s { alarms = alarms_advanced S s })
-      (advanced_may S known proper stays s may)
+      (advanced_may S known proper stays s may) in
+      let held = advanced_less S c s only in
+      omega (arith, adds, held)
 
   module _ (dispatch : PayForDispatch S p c) (arrived : List ℕ) (s : State)
       (good : IsRunState S s) where
     -- phases 1 to 4
-    pub before_adds : MayAct S known s → left S p c (before_execution S arrived s).state
+    pub before_adds : MayAct S known s → AreToExpireOnce S c s
+        → left S p c (before_execution S arrived s).state
         ≤ left S p c s
         + (sum_by c.costs.of_arrival (chosen_of S (λ i. is_in i arrived))
         + sum_by c.costs.of_expiry (due_alarms S s))
-    before_adds may =
+    before_adds may only =
         let acted : State = (alarm_phase S s).state in
         let raised : State = arrival_phase arrived acted in
         let there : State = (reschedule S raised).state in
-        let one = alarm_phase_adds s may in
+        let one = alarm_phase_adds s may only in
         let two = arrivals_add S p c arrived acted in
         let three =
         reschedule_less S p c dispatch raised (alarm_phase_ordered S proper s good).single in

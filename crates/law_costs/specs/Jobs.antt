@@ -4,11 +4,11 @@ use Rattle.osek_base.specs.Service.{JobCalls}
 use Rattle.osek_base.specs.State.{Job, State, job_of}
 use Rattle.osek_base.specs.System.{System, priority_of}
 use Rattle.law_alarms.specs.Setting.{call_by}
-use Rattle.law_costs.specs.Left.{Switch, Weights, counts, is_off, switch_of}
+use Rattle.law_costs.specs.Left.{Switch, Weights, counts, is_off, of_all_alarms, switch_of}
 use Rattle.law_costs.specs.Known.{Executes, IsKnownJob, Known, behind_by}
-use Rattle.law_costs.specs.Routines.{started_by}
+use Rattle.law_costs.specs.Routines.{set_by, started_by}
 
--- ---- what an instruction of a job leaves and starts
+-- ---- what an instruction of a job leaves, starts and sets
 
 -- where a job no longer counts: the section that a dispatch may begin, if interrupts were off
 abbrev pub left_of_section : Weights → Switch → ℕ
@@ -34,17 +34,22 @@ left_behind S p c s j =
 abbrev pub started : System → Weights → State → Job → ℕ
 started S c s j = started_by S c (JobCalls j) s (call_by S (JobCalls j))
 
+-- what it sets
+abbrev pub set : System → Weights → State → Job → ℕ
+set S c s j = set_by S c (JobCalls j) s (call_by S (JobCalls j))
+
 -- ---- what is asked
 
--- what is left of a job behind an instruction that it executes, and what that starts, is
+-- what is left of a job behind an instruction that it executes, and what that starts and sets, is
 pub record PaysIn (S : System) (p : ℕ) (c : Weights) (s : State) (j : Job) : Type 0 where
   -- one less at least, where the job counts
   pub takes : counts S p (switch_of s) j ≡ true
-      → left_behind S p c s j + (started S c s j + 1)
+      → left_behind S p c s j + (started S c s j + (set S c s j + 1))
       ≤ c.of_job (slice_index s.masks j.id.task) (switch_of s) j
-  -- no more than may be where a window begins, where its task is below the level
+  -- no more than may be where a window begins, where its task is below the level: whatever is set,
+  -- no more than all alarms are
   pub begins : priority_of S j.id.task < p
-      → left_behind S p c s j + started S c s j ≤ c.costs.at_begin
+      → left_behind S p c s j + (started S c s j + of_all_alarms S c) ≤ c.costs.at_begin
 
 -- so it is where a known job executes, whatever good state it finds
 abbrev pub PayForJobs : System → ℕ → Weights → Known → Type 0

@@ -1,9 +1,10 @@
 -- Which jobs and routines runs come to, told by tests: what begins passes them, and what goes on.
-use Rattle.std.specs.Prelude.{ℕ, ◌≡◌, ◌<◌, Bool, true, false, List, IfSome, length}
+use Rattle.std.specs.Prelude.{ℕ, ◌≡◌, ◌<◌, Bool, true, false, List, IfSome, is_some, length}
 use Rattle.std.specs.List.{list_any}
 use Rattle.osek_base.specs.declared.arrivals.Arrival.{Arrival}
 use Rattle.osek_base.specs.declared.ids.ResId.{ResId}
 use Rattle.osek_base.specs.Activation.{new_job, woken}
+use Rattle.osek_base.specs.Ceiling.{internal_ceiling}
 use Rattle.osek_base.specs.GoodState.{IsGood, IsShaped}
 use Rattle.osek_base.specs.Reschedule.{entered}
 use Rattle.osek_base.specs.Service.{Caller, JobCalls, NobodyCalls, RoutineCalls, caller_holds, caller_may_take, holds}
@@ -45,12 +46,19 @@ ExcludesOthers S who s =
     interrupts_off s ≡ false → (r : ResId) → caller_may_take S who r ≡ true
     → list_any (λ k. holds k r) s.jobs ≡ caller_holds who r
 
+-- the caller has taken its internal resource, if it is a job of a task that has one
+abbrev pub TakesInternal : System → Caller → Type 0
+TakesInternal S (JobCalls j) = j.taken ≡ is_some (internal_ceiling S j.id.task)
+TakesInternal S (RoutineCalls a) = Unit {0}
+TakesInternal S NobodyCalls = Unit {0}
+
 -- that caller executes in a good state, and the run isn't over behind it
 pub record Executes (S : System) (who : Caller) (s : State) : Type 0 where
   pub good : IsGood S s
   pub shaped : IsShaped S s
   pub calls : executor s ≡ who
   pub excludes : ExcludesOthers S who s
+  pub entered : TakesInternal S who
   pub goes_on : (behind_by S who s).over ≡ false
 
 -- ---- what is known stays known

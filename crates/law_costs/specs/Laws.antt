@@ -13,9 +13,10 @@ use Rattle.law_costs.specs.Known.{IsKnownAt, Known, StaysKnown, at_instruction}
 use Rattle.law_costs.specs.Paying.{CostSomething, PayForBoot, PayForComing, PayForDispatch, PayForStarts}
 use Rattle.law_costs.specs.Routines.{PayForRoutines}
 use Rattle.law_costs.specs.Jobs.{PayForJobs}
-use Rattle.law_costs.specs.Setting.{AreKnownNoSooner}
+use Rattle.law_costs.specs.Setting.{AreKnownNoSooner, AreKnownOnce}
 
--- costs pay for all that comes, and for the instructions of known jobs and routines
+-- costs pay for all that comes, and for the instructions of known jobs and routines; and alarms
+-- that pay are set once
 pub record Pay (S : System) (mode p : ℕ) (c : Weights) (known : Known) : Type 0 where
   pub something : CostSomething S p c known
   pub dispatch : PayForDispatch S p c
@@ -24,6 +25,7 @@ pub record Pay (S : System) (mode p : ℕ) (c : Weights) (known : Known) : Type 
   pub boot : PayForBoot S mode p c
   pub routines : PayForRoutines S c known
   pub jobs : PayForJobs S p c known
+  pub once : AreKnownOnce S mode c known
 
 -- ---- the laws
 

@@ -1,9 +1,10 @@
 -- What is left of a level's work in a state, by costs of who executes as it stands.
-use Rattle.std.specs.Prelude.{ℕ, ◌+◌, Bool, false, not, ◌&&◌, ◌||◌, nat_le, nat_lt, if◌then◌else◌, List, Option, Some, None, is_some, slice_index}
-use Rattle.std.specs.List.{list_any, sum_by}
+use Rattle.std.specs.Prelude.{ℕ, ◌+◌, Bool, false, not, ◌&&◌, ◌||◌, nat_le, nat_lt, if◌then◌else◌, List, Option, Some, None, is_some, length, slice_index, slice_index_or}
+use Rattle.std.specs.List.{filter, list_any, sum_by}
 use Rattle.osek_base.specs.Blocker.{is_job}
+use Rattle.osek_base.specs.Lists.{below}
 use Rattle.osek_base.specs.Priority.{dynamic_priority}
-use Rattle.osek_base.specs.State.{Active, Job, State, waits}
+use Rattle.osek_base.specs.State.{Active, Expiry, Job, State, waits}
 use Rattle.osek_base.specs.System.{System}
 use Rattle.osek_base.specs.Tick.{is_pending}
 use Rattle.law_future.specs.Shown.{chosen_of}
@@ -51,6 +52,8 @@ pub record Weights : Type 0 where
   pub of_event : ℕ → ℕ → ℕ
   -- of the section of a lower job that a dispatch begins
   pub of_section : ℕ
+  -- of an alarm that is set, where it pays for its expiry; of any other alarm nothing
+  pub of_alarm : ℕ → ℕ
   -- of an interrupt, of an expiry, and where a window begins
   pub costs : Costs
 
@@ -80,8 +83,19 @@ left_of_active c w (Some a) = c.of_active w a
 abbrev pub left_of_pending : System → Weights → State → ℕ
 left_of_pending S c s = sum_by c.costs.of_arrival (chosen_of S (is_pending s))
 
+-- of the alarms that are set
+abbrev pub left_of_alarms : System → Weights → List (Option Expiry) → ℕ
+left_of_alarms S c alarms =
+    sum_by c.of_alarm
+    (filter (λ a. is_some (slice_index_or alarms a None)) (below (length S.alarms)))
+
+-- .. if all are set
+abbrev pub of_all_alarms : System → Weights → ℕ
+of_all_alarms S c = sum_by c.of_alarm (below (length S.alarms))
+
 -- of all of them
 abbrev pub left : System → ℕ → Weights → State → ℕ
 left S p c s =
     left_of_active c (switch_of s) s.active
-    + (left_of_pending S c s + left_of_jobs S p c s.masks (switch_for s) s.jobs)
+    + (left_of_pending S c s
+    + (left_of_jobs S p c s.masks (switch_for s) s.jobs + left_of_alarms S c s.alarms))

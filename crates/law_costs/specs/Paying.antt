@@ -12,7 +12,7 @@ use Rattle.osek_base.specs.Tick.{action_call}
 use Rattle.osek_base.specs.Trace.{starting_tasks}
 use Rattle.osek_base.specs.Types.{ServiceCall}
 use Rattle.law_windows.specs.Routines.{begun}
-use Rattle.law_costs.specs.Left.{Switch, Weights, counts, on}
+use Rattle.law_costs.specs.Left.{Switch, Weights, counts, of_all_alarms, on}
 use Rattle.law_costs.specs.Known.{IsKnownJob, IsKnownRoutine, Known}
 
 -- whether a task is of the level
@@ -33,14 +33,14 @@ pub record CostSomething (S : System) (p : ℕ) (c : Weights) (known : Known) : 
       → 1 ≤ c.of_job m w j
 
 -- a dispatch takes nothing from a job that counts already; a section that it begins is paid, and no
--- more than may be where a window begins; and sections of lower jobs cost the same, whatever events
--- are set
+-- more than may be where a window begins, whatever alarms are set; and sections of lower jobs cost
+-- the same, whatever events are set
 pub record PayForDispatch (S : System) (p : ℕ) (c : Weights) : Type 0 where
   pub entering : (m : ℕ) (j : Job) → waits j ≡ false → p ≤ dynamic_priority S j
       → c.of_job m on (entered S j) ≤ c.of_job m on j
   pub beginning : (m : ℕ) (j : Job) → waits j ≡ false → dynamic_priority S j < p
       → p ≤ dynamic_priority S (entered S j) → c.of_job m on (entered S j) ≤ c.of_section
-  pub section : c.of_section ≤ c.costs.at_begin
+  pub section : c.of_section + of_all_alarms S c ≤ c.costs.at_begin
   pub lower : (m n : ℕ) (w : Switch) (j : Job) → priority_of S j.id.task < p
       → c.of_job m w j ≤ c.of_job n w j
 
@@ -57,15 +57,17 @@ pub record PayForStarts (S : System) (p : ℕ) (c : Weights) (known : Known) : T
   pub more : (m x : ℕ) (w : Switch) (j : Job) → IsKnownJob known w j → waits j ≡ false
       → c.of_job (bit_or m x) w j ≤ c.of_job m w j + c.of_event j.id.task x
 
--- an interrupt pays for its whole routine, an expiry for what its alarm starts
+-- an interrupt pays for its whole routine; an expiry, with what its alarm holds, for what that
+-- starts
 pub record PayForComing (S : System) (c : Weights) : Type 0 where
   pub routine : (i : ℕ) → i < length S.routines
       → c.of_active on (begun i) ≤ c.costs.of_arrival i
   pub alarm : (a : ℕ) → a < length S.alarms
-      → start_of c (action_call (alarm S a).action) ≤ c.costs.of_expiry a
+      → start_of c (action_call (alarm S a).action) ≤ c.costs.of_expiry a + c.of_alarm a
 
 -- where a window begins with the run it has the tasks of the level that start with it, or the
--- section that the first dispatch begins
+-- section that the first dispatch begins; and whatever alarms are set
 pub record PayForBoot (S : System) (mode p : ℕ) (c : Weights) : Type 0 where
-  pub tasks : sum_by c.of_task (filter (is_upper S p) (starting_tasks S mode)) ≤ c.costs.at_boot
-  pub section : c.of_section ≤ c.costs.at_boot
+  pub tasks : sum_by c.of_task (filter (is_upper S p) (starting_tasks S mode)) + of_all_alarms S c
+      ≤ c.costs.at_boot
+  pub section : c.of_section + of_all_alarms S c ≤ c.costs.at_boot

@@ -1,5 +1,6 @@
 -- Costs of routines, by one inequality for each instruction of a known routine.
 use Rattle.std.specs.Prelude.{ℕ, ◌+◌, ◌≤◌, Option, Some, None}
+use Rattle.osek_base.specs.declared.instr.Service.{Service}
 use Rattle.osek_base.specs.declared.status.Status.{Status}
 use Rattle.osek_base.specs.Service.{Caller, RoutineCalls, service}
 use Rattle.osek_base.specs.State.{Active, State}
@@ -20,17 +21,33 @@ abbrev pub started_by : System → Weights → Caller → State → Option Servi
 started_by S c who s None = 0
 started_by S c who s (Some call) = started_where c (service S who s call).status call
 
+-- what a service sets where it isn't refused: an alarm, which may pay for its expiry
+abbrev pub set_of : Weights → ServiceCall → ℕ
+set_of c (Service.SetRelAlarm (Some a) increment cycle) = c.of_alarm a
+set_of c (Service.SetAbsAlarm (Some a) start cycle) = c.of_alarm a
+set_of c call = 0
+
+-- .. by its status, and by a caller in a state
+abbrev pub set_where : Weights → Status → ServiceCall → ℕ
+set_where c Status.Ok call = set_of c call
+set_where c _ call = 0
+
+abbrev pub set_by : System → Weights → Caller → State → Option ServiceCall → ℕ
+set_by S c who s None = 0
+set_by S c who s (Some call) = set_where c (service S who s call).status call
+
 -- what is left of a routine behind an instruction that it executes
 abbrev pub left_behind_routine : System → Weights → State → Active → ℕ
 left_behind_routine S c s a =
     left_of_active c (switch_of (behind_by S (RoutineCalls a) s))
     (behind_by S (RoutineCalls a) s).active
 
--- that, and what the instruction starts, is one less at least
+-- that, and what the instruction starts and sets, is one less at least
 abbrev pub TakesIn : System → Weights → State → Active → Type 0
 TakesIn S c s a =
     left_behind_routine S c s a
-    + (started_by S c (RoutineCalls a) s (call_by S (RoutineCalls a)) + 1)
+    + (started_by S c (RoutineCalls a) s (call_by S (RoutineCalls a))
+    + (set_by S c (RoutineCalls a) s (call_by S (RoutineCalls a)) + 1))
     ≤ c.of_active (switch_of s) a
 
 -- so it is where a known routine executes, whatever good state it finds

@@ -14,7 +14,7 @@ use Rattle.osek_base.specs.Types.{ServiceCall}
 use Rattle.law_alarms.specs.Setting.{call_in}
 use Rattle.law_costs.specs.Known.{ExcludesOthers}
 use Rattle.law_costs.specs.Left.{Switch, Weights, is_off, switch_of}
-use Rattle.law_costs.specs.Routines.{started_by, started_where}
+use Rattle.law_costs.specs.Routines.{set_by, set_where, started_by, started_where}
 use Rattle.law_runs.proofs.Known.{IsRunningCaller}
 use Rattle.law_nodes.specs.Early.{awaited}
 use Rattle.law_nodes.specs.Nodes.{Node, Table, is_told, of_job}
@@ -28,14 +28,14 @@ use Rattle.law_nodes.proofs.Owning.{IsAlone, IsOwn}
 use Rattle.law_nodes.proofs.Refusing.{refusals_told}
 use Rattle.law_nodes.proofs.Standing.{node_of}
 use Rattle.law_nodes.proofs.Telling.{job_tells}
-use Rattle.law_nodes.proofs.Starting.{all_first, started_same}
+use Rattle.law_nodes.proofs.Starting.{all_first, set_same, started_same}
 
--- steps that pass with what is started, and the job is at one of them, if it is still there; where
--- it doesn't wait, its events hold no more there
-pub record JobOutcome (pays : Table → ℕ → Bool) (v : Switch) (j : Job) (started : ℕ)
+-- steps that pass with what is started and set, and the job is at one of them, if it is still
+-- there; where it doesn't wait, its events hold no more there
+pub record JobOutcome (pays : Table → ℕ → ℕ → Bool) (v : Switch) (j : Job) (started set : ℕ)
     (what : Instr) (before used : ℕ) (e : State) : Type 0 where
   pub next : Table
-  pub paid : pays next started ≡ true
+  pub paid : pays next started set ≡ true
   pub own : AllByRecursion (IsOwn (λ k. is_told next (of_job v k) ≡ true) j.id) e.jobs
   pub held : (AllByRecursion (IsOwn (λ k. waits k ≡ true) j.id) e.jobs → ⊥)
       → AllByRecursion
@@ -44,7 +44,7 @@ pub record JobOutcome (pays : Table → ℕ → Bool) (v : Switch) (j : Job) (st
 module _ (S : System) (s : State) (j : Job) (calls : IsRunningCaller s j) (alone : IsAlone s j)
     (excludes : ExcludesOthers S (JobCalls j) s) (registers : List (Option ℕ)) (used : ℕ)
     (all : AreValues registers j.context.registers) (c : Weights)
-    (pays : Table → ℕ → Bool) where
+    (pays : Table → ℕ → ℕ → Bool) where
   abbrev x : Context
   x = j.context
 
@@ -59,8 +59,9 @@ module _ (S : System) (s : State) (j : Job) (calls : IsRunningCaller s j) (alone
 
   abbrev Outcome : Instr → Type 0
   Outcome what =
-      JobOutcome pays (switch_of (e what)) j (started_by S c (JobCalls j) s (call_in x what)) what
-      (slice_index s.masks j.id.task) used (e what)
+      JobOutcome pays (switch_of (e what)) j (started_by S c (JobCalls j) s (call_in x what))
+      (set_by S c (JobCalls j) s (call_in x what)) what (slice_index s.masks j.id.task) used
+      (e what)
 
   service_outcome : (call : ServiceCall) → all_outcomes S c pays (Instr.Service call) n ≡ true
       → Outcome (Instr.Service call)
@@ -68,9 +69,14 @@ module _ (S : System) (s : State) (j : Job) (calls : IsRunningCaller s j) (alone
   service_outcome call passes = record {
     next = replied S n call refusal;
     paid =
-        ap (pays (replied S n call refusal)) (started_same c x call (answer refusal))
+        ap
+        (λ k. pays (replied S n call refusal) k (set_where c (answer refusal) (at_values x call)))
+        (started_same c x call (answer refusal))
+        ∙ ap (pays (replied S n call refusal) (started_where c (answer refusal) call))
+        (set_same c x call (answer refusal))
         ∙ all_first
-        (λ o. pays (replied S n call o) (started_where c (answer o) call))
+        (λ o. pays (replied S n call o) (started_where c (answer o) call)
+        (set_where c (answer o) call))
         ((Some (is_off (switch_of s)), Status.SysDisabled)
         ∷ refusals_of S (caller_by who j.held) registers call)
         ((interrupts_off s, Status.SysDisabled) ∷ refusals S (JobCalls j) s (at_values x call)) (

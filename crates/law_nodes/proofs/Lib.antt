@@ -19,8 +19,12 @@ pub mod Pricing
 pub mod Starting
 pub mod JobOutcomes
 pub mod RoutineOutcomes
+pub mod Priorities
+pub mod Counting
 pub mod Paying
 pub mod WorkedLemmas
 pub mod Setting
+pub mod SettingOnce
 pub mod Paid
+pub mod Bounding
 pub mod AtKnownTicks

@@ -1,12 +1,11 @@
 -- Prices that pay make costs that do.
-use Rattle.std.proofs.Common.{◌≡◌, ℕ, ◌+◌, ◌≤◌, ◌<◌, max, Bool, true, false, cond, not, ◌&&◌, ◌||◌, nat_le, nat_lt, List, map, length, refl, sym, ap, subst, arith}
-use Rattle.std.specs.Prelude.{Option, Some, None, unwrap_or, bit_or}
+use Rattle.std.proofs.Common.{◌≡◌, ℕ, ◌+◌, ◌≤◌, ◌<◌, Bool, true, false, not, ◌&&◌, ◌||◌, nat_le, nat_lt, List, length, refl, sym, ap, subst, arith}
+use Rattle.std.specs.Prelude.{Option, Some, None, bit_or}
 use Rattle.std.specs.List.{AllByRecursion, filter, list_all, sum_by}
 use Rattle.std.proofs.lemmas.Bool.{and_from, and_parts, le-leb, leb-true, lt-ltb}
 use Rattle.osek_base.specs.declared.ids.Owner.{Owner}
 use Rattle.osek_base.specs.Activation.{new_job, woken}
-use Rattle.osek_base.specs.Ceiling.{ceiling, internal_ceiling}
-use Rattle.osek_base.specs.Lists.{greatest, is_in}
+use Rattle.osek_base.specs.Lists.{is_in}
 use Rattle.osek_base.specs.Priority.{dynamic_priority, static_priority}
 use Rattle.osek_base.specs.Reschedule.{entered}
 use Rattle.osek_base.specs.Service.{is_met}
@@ -19,21 +18,21 @@ use Rattle.law_runs.proofs.Foremost.{static_le}
 use Rattle.law_runs.proofs.Lists.{all_any, clash}
 use Rattle.law_costs.specs.Known.{Known}
 use Rattle.law_costs.specs.Laws.{Pay}
-use Rattle.law_costs.specs.Left.{Switch, Weights, on}
+use Rattle.law_costs.specs.Left.{Switch, Weights, of_all_alarms, on}
 use Rattle.law_costs.specs.Paying.{CostSomething, PayForBoot, PayForComing, PayForDispatch, PayForStarts, is_upper, start_of}
-use Rattle.law_costs.proofs.Falls.{costs_bound_responses}
 use Rattle.law_nodes.specs.Closed.{known_by}
 use Rattle.law_nodes.specs.Early.{bits, is_mask, is_set, sum_besides, sum_of}
 use Rattle.law_nodes.specs.Nodes.{Node, Standing, covers, is_at, is_told, of_job, of_routine, with_awaited, woken_node}
-use Rattle.law_nodes.specs.Paid.{EventCosts, PricesBoundResponses, PricesPay, alarms_pay, boot_pays, events_pay, is_covered_by, is_woken, is_woken_by, lowest, may_rise, pays_fresh, pays_woken, prices_pay, with_events}
+use Rattle.law_nodes.specs.Paid.{EventCosts, PricesPay, alarms_pay, boot_pays, events_pay, is_covered_by, is_woken, is_woken_by, lowest, may_rise, pays_fresh, pays_woken, prices_pay, with_events}
 use Rattle.law_nodes.specs.Prices.{Priced, alone, cost_of, highest, nodes_pay, priced_by, table_of, with_held}
-use Rattle.law_nodes.proofs.Closing.{closed_tables_stay_known}
-use Rattle.law_nodes.proofs.Paying.{dynamic_high, nodes_pay_for_all}
+use Rattle.law_nodes.specs.Setting.{are_set_once}
+use Rattle.law_nodes.proofs.Priorities.{dynamic_high, dynamic_low}
+use Rattle.law_nodes.proofs.Paying.{nodes_pay_for_all}
 use Rattle.law_nodes.proofs.Pricing.{cost_raised, none_above, paid_within, told_from, told_priced}
 use Rattle.law_nodes.proofs.Masks.{meeting_new, one_passes}
 use Rattle.law_nodes.proofs.MaskSums.{one_within}
 use Rattle.law_nodes.proofs.EarlyLemmas.{early_besides, early_low, early_more, early_none, extended_inside}
-use Rattle.law_nodes.proofs.Setting.{alarms_slow}
+use Rattle.law_nodes.proofs.SettingOnce.{alarms_once}
 use Rattle.law_nodes.proofs.Standing.{at_is, covered_at, is_at_of, node_of}
 use Rattle.law_nodes.proofs.Tests.{by_any, each_passing, one_below, unless}
 
@@ -53,12 +52,20 @@ module _ (S : System) (mode p : ℕ) (c : Weights) (e : EventCosts) (prices : Li
   abbrev covers_all : Bool
   covers_all = list_all (is_covered_by S p d e prices) prices
 
+  five : (nodes_pay S p d e.held prices && covers_all && alarms_pay S d && boot_pays S mode p d
+      && events_pay S e ≡ true) × (are_set_once S mode c (table_of prices) ≡ true)
+  five =
+      and_parts
+      (nodes_pay S p d e.held prices && covers_all && alarms_pay S d && boot_pays S mode p d
+      && events_pay S e)
+      (are_set_once S mode c (table_of prices)) pay
+
   four : (nodes_pay S p d e.held prices && covers_all && alarms_pay S d && boot_pays S mode p d
       ≡ true) × (events_pay S e ≡ true)
   four =
       and_parts
       (nodes_pay S p d e.held prices && covers_all && alarms_pay S d && boot_pays S mode p d)
-      (events_pay S e) pay
+      (events_pay S e) five.0
 
   three : (nodes_pay S p d e.held prices && covers_all && alarms_pay S d ≡ true)
       × (boot_pays S mode p d ≡ true)
@@ -132,21 +139,11 @@ module _ (S : System) (mode p : ℕ) (c : Weights) (e : EventCosts) (prices : Li
 
   -- ---- a dispatch
 
-  low_from : (b : Bool) (own rest inner : ℕ)
-      → max own rest ≤ max own (max rest (cond b inner 0))
-  low_from true own rest inner = omega arith
-  low_from false own rest inner = omega arith
-
-  dynamic_low : (j : Job) → lowest S (Owner.Task j.id.task) j.held ≤ dynamic_priority S j
-  dynamic_low j =
-      low_from j.taken (priority_of S j.id.task) (greatest (map (ceiling S) j.held))
-      (unwrap_or (internal_ceiling S j.id.task) 0)
-
   rising : (j : Job) (registers : List (Option ℕ)) (used : ℕ) → waits j ≡ false
       → dynamic_priority S j < p → p ≤ dynamic_priority S (entered S j)
       → may_rise S p (node_of (of_job on j) registers used) ≡ true
   rising j registers used ready low high =
-      let under = dynamic_low j in
+      let under = dynamic_low S j in
       let over = dynamic_high S (entered S j) in
       and_from
       (not (waits j) && true && nat_lt (lowest S (Owner.Task j.id.task) j.held) p)
@@ -191,20 +188,23 @@ module _ (S : System) (mode p : ℕ) (c : Weights) (e : EventCosts) (prices : Li
       (let none = early_low S p e.held j.id.task m q.node.used low in omega (arith, none)))) in
       omega (arith, less)
 
-  booted : (nat_le (sum_by d.of_task (filter (is_upper S p) (starting_tasks S mode)))
-      c.costs.at_boot && nat_le c.of_section c.costs.at_boot ≡ true)
-      × (nat_le c.of_section c.costs.at_begin ≡ true)
+  abbrev begun_tasks : ℕ
+  begun_tasks = sum_by d.of_task (filter (is_upper S p) (starting_tasks S mode))
+
+  booted : (nat_le (begun_tasks + of_all_alarms S c) c.costs.at_boot
+      && nat_le (c.of_section + of_all_alarms S c) c.costs.at_boot ≡ true)
+      × (nat_le (c.of_section + of_all_alarms S c) c.costs.at_begin ≡ true)
   booted =
       and_parts
-      (nat_le (sum_by d.of_task (filter (is_upper S p) (starting_tasks S mode))) c.costs.at_boot
-      && nat_le c.of_section c.costs.at_boot)
-      (nat_le c.of_section c.costs.at_begin) three.1
+      (nat_le (begun_tasks + of_all_alarms S c) c.costs.at_boot
+      && nat_le (c.of_section + of_all_alarms S c) c.costs.at_boot)
+      (nat_le (c.of_section + of_all_alarms S c) c.costs.at_begin) three.1
 
   dispatch : PayForDispatch S p costs
   dispatch = record {
     entering = λ m j ready up. omega arith;
     beginning = λ m j ready low high. section_of m j ready low high;
-    section = leb-true c.of_section c.costs.at_begin booted.1;
+    section = leb-true (c.of_section + of_all_alarms S c) c.costs.at_begin booted.1;
     lower = lower_of;
   }
 
@@ -354,23 +354,21 @@ module _ (S : System) (mode p : ℕ) (c : Weights) (e : EventCosts) (prices : Li
   coming = record {
     routine = λ i inside. fresh_routine i;
     alarm = λ a inside.
-        leb-true (start_of d (action_call (alarm S a).action)) (c.costs.of_expiry a)
+        leb-true (start_of d (action_call (alarm S a).action)) (c.costs.of_expiry a + c.of_alarm a)
         (one_below
-        (λ b. nat_le (start_of d (action_call (alarm S b).action)) (c.costs.of_expiry b))
+        (λ b. nat_le (start_of d (action_call (alarm S b).action))
+        (c.costs.of_expiry b + c.of_alarm b))
         (length S.alarms) a inside two.1);
   }
 
   boot : PayForBoot S mode p costs
   boot =
       let both =
-      and_parts
-      (nat_le (sum_by d.of_task (filter (is_upper S p) (starting_tasks S mode))) c.costs.at_boot)
-      (nat_le c.of_section c.costs.at_boot) booted.0 in
+      and_parts (nat_le (begun_tasks + of_all_alarms S c) c.costs.at_boot)
+      (nat_le (c.of_section + of_all_alarms S c) c.costs.at_boot) booted.0 in
       record {
-        tasks =
-            leb-true (sum_by d.of_task (filter (is_upper S p) (starting_tasks S mode)))
-            c.costs.at_boot both.0;
-        section = leb-true c.of_section c.costs.at_boot both.1;
+        tasks = leb-true (begun_tasks + of_all_alarms S c) c.costs.at_boot both.0;
+        section = leb-true (c.of_section + of_all_alarms S c) c.costs.at_boot both.1;
       }
 
   pays : Pay S mode p costs known
@@ -384,14 +382,8 @@ module _ (S : System) (mode p : ℕ) (c : Weights) (e : EventCosts) (prices : Li
         boot = boot;
         routines = nodes.routines;
         jobs = nodes.jobs;
+        once = alarms_once S mode (table_of prices) c five.1;
       }
 
 pub prices_pay_for_all : PricesPay
 prices_pay_for_all S mode p c e prices pay = pays S mode p c e prices pay
-
-pub prices_bound_responses : PricesBoundResponses
-prices_bound_responses S mode rules p c e prices least most proper closed pay slow enough =
-    costs_bound_responses S mode rules p (priced_by S p (with_events c e) e.held prices)
-    (known_by (table_of prices)) least most proper
-    (closed_tables_stay_known S (table_of prices) closed) (pays S mode p c e prices pay)
-    (alarms_slow S mode (table_of prices) c.costs least slow) enough

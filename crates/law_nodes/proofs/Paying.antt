@@ -1,12 +1,10 @@
 -- Costs of nodes pay for the instructions of who is at them.
-use Rattle.std.proofs.Common.{◌≡◌, ℕ, ◌+◌, ◌≤◌, ◌<◌, max, Bool, true, false, cond, not, ◌&&◌, ◌||◌, nat_le, List, map, refl, sym, ◌∙◌, ap, subst, arith}
-use Rattle.std.specs.Prelude.{Option, Some, None, IfSome, is_some, unwrap_or, slice_index}
+use Rattle.std.proofs.Common.{◌≡◌, ℕ, ◌+◌, ◌≤◌, ◌<◌, Bool, true, false, cond, not, ◌&&◌, ◌||◌, nat_le, List, refl, sym, ◌∙◌, ap, subst, arith}
+use Rattle.std.specs.Prelude.{Option, Some, None, IfSome, is_some, slice_index}
 use Rattle.std.specs.List.{AllByRecursion, list_all}
-use Rattle.std.proofs.lemmas.Bool.{and_from, and_parts, le-leb, leb-true, lt-leb, not-true}
+use Rattle.std.proofs.lemmas.Bool.{and_parts, leb-true, lt-leb, not-true}
 use Rattle.osek_base.specs.declared.ids.Owner.{Owner}
 use Rattle.osek_base.specs.declared.instr.Instr.{Instr}
-use Rattle.osek_base.specs.Ceiling.{ceiling, internal_ceiling}
-use Rattle.osek_base.specs.Lists.{greatest}
 use Rattle.osek_base.specs.Priority.{dynamic_priority}
 use Rattle.osek_base.specs.Service.{JobCalls, RoutineCalls}
 use Rattle.osek_base.specs.State.{Active, Job, JobId, State, job_of, same_id, waits}
@@ -14,15 +12,17 @@ use Rattle.osek_base.specs.System.{System, instruction_at, priority_of}
 use Rattle.law_alarms.specs.Setting.{call_by}
 use Rattle.law_runs.proofs.Known.{IsCaller, IsRunningCaller, executor_calls}
 use Rattle.law_runs.proofs.Foremost.{same_ids}
-use Rattle.law_runs.proofs.Lists.{all_any, all_weaker, clash, found}
-use Rattle.law_costs.specs.Jobs.{PaysIn, behind, left_behind, left_of_own, left_of_section, started}
+use Rattle.law_runs.proofs.Lists.{all_any, all_weaker, clash, found, none_some, some_inside}
+use Rattle.law_costs.specs.Jobs.{PaysIn, behind, left_behind, left_of_own, left_of_section, set, started}
 use Rattle.law_costs.specs.Known.{Executes, behind_by}
-use Rattle.law_costs.specs.Left.{Switch, Weights, counts, is_off, left_of_active, switch_of}
-use Rattle.law_costs.specs.Routines.{TakesIn, left_behind_routine, started_by}
+use Rattle.law_costs.specs.Left.{Switch, Weights, counts, is_off, left_of_active, of_all_alarms, switch_of}
+use Rattle.law_costs.specs.Routines.{TakesIn, left_behind_routine, set_by, started_by}
 use Rattle.law_nodes.specs.Early.{awaited, freed_early, held_early}
 use Rattle.law_nodes.specs.Nodes.{Node, Standing, Table, covers, is_at, is_beside, is_told, is_within, of_job, of_routine}
-use Rattle.law_nodes.specs.Prices.{NodesPay, Priced, all_outcomes, alone, cost_of, highest, is_paid, job_fits, may_count, node_pays, nodes_pay, pays_by, priced_by, routine_fits, table_of, with_held}
+use Rattle.law_nodes.specs.Prices.{NodesPay, Priced, all_outcomes, alone, cost_of, is_paid, job_fits, may_count, node_pays, nodes_pay, pays_by, priced_by, routine_fits, section_behind, stays_counted, table_of, with_held}
 use Rattle.law_nodes.specs.Values.{know_no_more}
+use Rattle.law_nodes.proofs.Counting.{HasCounted, staying_at}
+use Rattle.law_nodes.proofs.Priorities.{counting_at}
 use Rattle.law_nodes.proofs.EarlyLemmas.{early_low, early_step, early_used}
 use Rattle.law_nodes.proofs.Gains.{LeavesHeld}
 use Rattle.law_nodes.proofs.JobOutcomes.{JobOutcome, job_outcome}
@@ -32,42 +32,6 @@ use Rattle.law_nodes.proofs.Pricing.{paid_within, told_from, told_priced}
 use Rattle.law_nodes.proofs.RoutineOutcomes.{RoutineOutcome, routine_outcome}
 use Rattle.law_nodes.proofs.Standing.{at_is, covered_at, node_of}
 use Rattle.law_nodes.proofs.Tests.{by_any, by_any_of, each_passing, second, unless}
-
--- ---- a job that counts may count
-
-module _ (S : System) (j : Job) where
-  high_from : (b : Bool) (rest : ℕ) (inner : ℕ)
-      → max (priority_of S j.id.task) (max rest (cond b inner 0))
-      ≤ max (priority_of S j.id.task) (max rest inner)
-  high_from true rest inner = omega arith
-  high_from false rest inner = omega arith
-
-  pub dynamic_high : dynamic_priority S j ≤ highest S (Owner.Task j.id.task) j.held
-  dynamic_high =
-      high_from j.taken (greatest (map (ceiling S) j.held))
-      (unwrap_or (internal_ceiling S j.id.task) 0)
-
-module _ (S : System) (p : ℕ) (w : Switch) (j : Job) where
-  high_enough : (b : Bool) → (b || nat_le p (dynamic_priority S j)) ≡ true
-      → (b || nat_le p (highest S (Owner.Task j.id.task) j.held)) ≡ true
-  high_enough true h = refl
-  high_enough false h =
-      let up = leb-true p (dynamic_priority S j) h in
-      let more = dynamic_high S j in
-      le-leb p (highest S (Owner.Task j.id.task) j.held) (omega (arith, up, more))
-
-  counting : (registers : List (Option ℕ)) (used : ℕ) → counts S p w j ≡ true
-      → may_count S p (node_of (of_job w j) registers used) ≡ true
-  counting registers used h =
-      let both = and_parts (not (waits j)) (is_off w || nat_le p (dynamic_priority S j)) h in
-      and_from (not (waits j)) (is_off w || nat_le p (highest S (Owner.Task j.id.task) j.held))
-      both.0 (high_enough (is_off w) both.1)
-
-  pub counting_at : (n : Node) → is_at n (of_job w j) ≡ true → counts S p w j ≡ true
-      → may_count S p n ≡ true
-  counting_at n at h =
-      let is = at_is n (of_job w j) at in
-      subst (λ m. may_count S p m ≡ true) (sym is.0) (counting n.registers n.used h)
 
 -- ---- what is left of a job
 
@@ -103,28 +67,37 @@ module _ (S : System) (p : ℕ) (c : Weights) (held : ℕ → ℕ → ℕ) (pric
       → job_fits S p c by prices n more most next ≡ true
       → AllByRecursion (IsOwn (λ k. is_told next (of_job v k) ≡ true) j.id) jobs
       → most ≤ total
+      → (stays_counted S p n ≡ true → HasCounted S p v j.id jobs)
       → ((k : Job) → job_of j.id jobs ≡ Some k → counts S p v k ≡ true
       → AllByRecursion
       (λ m. may_count S p m ≡ true
       → most + by m + held_early S p held k.id.task (slice_index masks k.id.task) m.used ≤ total)
       next)
       → left_of_own S p costs masks w v (job_of j.id jobs) + more ≤ total
-  left_fits by masks n w v j more most total next jobs same fits own low each =
+  left_fits by masks n w v j more most total next jobs same fits own low stays each =
       go (job_of j.id jobs) refl
     where
       both : (list_all (λ m. not (may_count S p m) || is_paid prices more (most + by m) m) next
-          ≡ true) × (nat_le (left_of_section c n.switch + more) most ≡ true)
+          ≡ true) × (nat_le (section_behind S p c n + more) most ≡ true)
       both =
           and_parts
           (list_all (λ m. not (may_count S p m) || is_paid prices more (most + by m) m) next)
-          (nat_le (left_of_section c n.switch + more) most) fits
+          (nat_le (section_behind S p c n + more) most) fits
 
-      section : left_of_section c w + more ≤ total
-      section =
-          let less =
-          subst (λ u. left_of_section c u + more ≤ most) same
-          (leb-true (left_of_section c n.switch + more) most both.1) in
-          omega (arith, less, low)
+      -- where it doesn't count behind that, the section is left
+      section : ((k : Job) → job_of j.id jobs ≡ Some k → counts S p v k ≡ true → ⊥)
+          → left_of_section c w + more ≤ total
+      section out = go (stays_counted S p n) refl both.1
+        where
+          go : (b : Bool) → stays_counted S p n ≡ b
+              → nat_le (cond b 0 (left_of_section c n.switch) + more) most ≡ true
+              → left_of_section c w + more ≤ total
+          go true is h = let there = stays is in absurd (out there.0 there.1 there.2)
+          go false is h =
+              let less =
+              subst (λ u. left_of_section c u + more ≤ most) same
+              (leb-true (left_of_section c n.switch + more) most h) in
+              omega (arith, less, low)
 
       cost_there : Job → ℕ
       cost_there k = costs.of_job (slice_index masks k.id.task) v k
@@ -151,11 +124,15 @@ module _ (S : System) (p : ℕ) (c : Weights) (held : ℕ → ℕ → ℕ) (pric
           → is_told next (of_job v k) ≡ true
           → cond b (cost_there k) (left_of_section c w) + more ≤ total
       some k there true count told = paid k there count told
-      some k there false count told = section
+      some k there false count told =
+          section
+          (λ l is counting.
+          clash
+          (sym counting ∙ ap (counts S p v) (some_inside l k (sym is ∙ there)) ∙ count))
 
       go : (o : Option Job) → job_of j.id jobs ≡ o
           → left_of_own S p costs masks w v o + more ≤ total
-      go None is = section
+      go None is = section (λ k there counting. none_some k (sym is ∙ there))
       go (Some k) is =
           let here =
           found (IsOwn (λ l. is_told next (of_job v l) ≡ true) j.id) (λ l. same_id l.id j.id) jobs
@@ -178,14 +155,21 @@ module _ (S : System) (p : ℕ) (c : Weights) (held : ℕ → ℕ → ℕ) (pric
     abbrev mask : ℕ
     mask = slice_index s.masks j.id.task
 
+    -- what the instruction starts and sets, and one more; and what it starts, and all alarms
+    abbrev one_more : ℕ
+    one_more = started S costs s j + (set S costs s j + 1)
+
+    abbrev with_all : ℕ
+    with_all = started S costs s j + of_all_alarms S c
+
     calls_job : IsRunningCaller s j
     calls_job = subst (IsCaller s) executes.calls (executor_calls s)
 
-    abbrev Found : (Table → ℕ → Bool) → ℕ → Type 0
+    abbrev Found : (Table → ℕ → ℕ → Bool) → ℕ → Type 0
     Found pays used =
-        JobOutcome pays (switch_of e) j (started S costs s j) what mask used e
+        JobOutcome pays (switch_of e) j (started S costs s j) (set S costs s j) what mask used e
 
-    outcome_at : (pays : Table → ℕ → Bool) (registers : List (Option ℕ)) (used : ℕ)
+    outcome_at : (pays : Table → ℕ → ℕ → Bool) (registers : List (Option ℕ)) (used : ℕ)
         → AreValues registers j.context.registers
         → (is_some j.waits_for || all_outcomes S c pays what
         (node_of (of_job w j) registers used)) ≡ true
@@ -198,7 +182,7 @@ module _ (S : System) (p : ℕ) (c : Weights) (held : ℕ → ℕ → ℕ) (pric
         (all_outcomes S c pays what (node_of (of_job w j) registers used))
         (ap is_some alone.ready) passes)
 
-    abbrev pays_at : Priced → Table → ℕ → Bool
+    abbrev pays_at : Priced → Table → ℕ → ℕ → Bool
     pays_at q = pays_by (Owner.Task j.id.task) S p c held what prices q
 
     outcome : (q : Priced) → is_at q.node (of_job w j) ≡ true
@@ -235,20 +219,20 @@ module _ (S : System) (p : ℕ) (c : Weights) (held : ℕ → ℕ → ℕ) (pric
 
     takes_of : (q : Priced) → is_at q.node (of_job w j) ≡ true
         → node_pays S p c held prices q ≡ true → counts S p w j ≡ true
-        → left_behind S p costs s j + (started S costs s j + 1) ≤ cost_at q
+        → left_behind S p costs s j + one_more ≤ cost_at q
     takes_of q at pays count =
         let is = at_is q.node (of_job w j) at in
         let got = outcome q at pays in
-        let fits = job_fits S p c by prices q.node (started S costs s j + 1) q.cost got.next in
+        let fits = job_fits S p c by prices q.node one_more q.cost got.next in
         let both =
         and_parts (not (may_count S p q.node) || fits)
         (nat_le p (priority_of S j.id.task)
-        || job_fits S p c (λ m. 0) prices q.node (started S costs s j) c.costs.at_begin got.next)
+        || job_fits S p c (λ m. 0) prices q.node with_all c.costs.at_begin got.next)
         got.paid in
-        left_fits by e.masks q.node w (switch_of e) j (started S costs s j + 1) q.cost (cost_at q)
+        left_fits by e.masks q.node w (switch_of e) j one_more q.cost (cost_at q)
         got.next e.jobs (ap (λ (m : Node). m.switch) is.0)
         (unless (may_count S p q.node) fits (counting_at S p w j q.node at count) both.0)
-        got.own (omega arith)
+        got.own (omega arith) (staying_at S p s j executes q.node at)
         (λ k there counting.
         all_weaker
         (LeavesHeld (awaited what) mask (slice_index e.masks j.id.task) q.node.used)
@@ -276,24 +260,24 @@ module _ (S : System) (p : ℕ) (c : Weights) (held : ℕ → ℕ → ℕ) (pric
 
     begins_of : (q : Priced) → is_at q.node (of_job w j) ≡ true
         → node_pays S p c held prices q ≡ true → priority_of S j.id.task < p
-        → left_behind S p costs s j + started S costs s j ≤ c.costs.at_begin
+        → left_behind S p costs s j + with_all ≤ c.costs.at_begin
     begins_of q at pays low =
         let is = at_is q.node (of_job w j) at in
         let got = outcome q at pays in
         let fits =
-        job_fits S p c (λ m. 0) prices q.node (started S costs s j) c.costs.at_begin got.next in
+        job_fits S p c (λ m. 0) prices q.node with_all c.costs.at_begin got.next in
         let both =
         and_parts
         (not (may_count S p q.node)
         || job_fits S p c (freed_early S p held j.id.task what q.node) prices q.node
-        (started S costs s j + 1) q.cost got.next)
+        one_more q.cost got.next)
         (nat_le p (priority_of S j.id.task) || fits)
         got.paid in
-        left_fits (λ m. 0) e.masks q.node w (switch_of e) j (started S costs s j)
+        left_fits (λ m. 0) e.masks q.node w (switch_of e) j with_all
         c.costs.at_begin c.costs.at_begin got.next e.jobs (ap (λ (m : Node). m.switch) is.0)
         (second (nat_le p (priority_of S j.id.task)) fits
         (lt-leb p (priority_of S j.id.task) low) both.1)
-        got.own (omega arith)
+        got.own (omega arith) (staying_at S p s j executes q.node at)
         (λ k there counting.
         all_any
         (λ m. may_count S p m ≡ true
@@ -312,14 +296,14 @@ module _ (S : System) (p : ℕ) (c : Weights) (held : ℕ → ℕ → ℕ) (pric
     job_pays pay told = record {
       takes = λ count.
           told_from cost_at (of_job w j)
-          (left_behind S p costs s j + (started S costs s j + 1)) prices told
+          (left_behind S p costs s j + one_more) prices told
           (each_passing
           (λ q. is_at q.node (of_job w j) ≡ true
-          → left_behind S p costs s j + (started S costs s j + 1) ≤ cost_at q)
+          → left_behind S p costs s j + one_more ≤ cost_at q)
           (node_pays S p c held prices) prices (λ q pays at. takes_of q at pays count) pay);
       begins = λ low.
           by_any
-          (left_behind S p costs s j + started S costs s j ≤ c.costs.at_begin)
+          (left_behind S p costs s j + with_all ≤ c.costs.at_begin)
           (λ q. is_at q.node (of_job w j)) (node_pays S p c held prices) prices
           (λ q at pays. begins_of q at pays low) (told_priced (of_job w j) prices told) pay;
     }
@@ -332,6 +316,9 @@ module _ (S : System) (p : ℕ) (c : Weights) (held : ℕ → ℕ → ℕ) (pric
 
     abbrev starts : ℕ
     starts = started_by S costs (RoutineCalls a) s (call_by S (RoutineCalls a))
+
+    abbrev sets : ℕ
+    sets = set_by S costs (RoutineCalls a) s (call_by S (RoutineCalls a))
 
     abbrev there_is : Instr
     there_is = instruction_at S (Owner.Routine a.routine) a.context.place
@@ -361,15 +348,15 @@ module _ (S : System) (p : ℕ) (c : Weights) (held : ℕ → ℕ → ℕ) (pric
         (λ m at paid. routine_within (of_routine v b) more most m paid at) own
         (and_parts (list_all (is_paid prices more most) next) (nat_le more most) fits).0
 
-    abbrev pays_routine : Priced → Table → ℕ → Bool
+    abbrev pays_routine : Priced → Table → ℕ → ℕ → Bool
     pays_routine q = pays_by (Owner.Routine a.routine) S p c held there_is prices q
 
     taken_of : (q : Priced) → is_at q.node (of_routine (switch_of s) a) ≡ true
         → node_pays S p c held prices q ≡ true
-        → left_behind_routine S costs s a + (starts + 1) ≤ q.cost
+        → left_behind_routine S costs s a + (starts + (sets + 1)) ≤ q.cost
     taken_of q at pays =
         let is = at_is q.node (of_routine (switch_of s) a) at in
-        let got : RoutineOutcome (pays_routine q) (switch_of there) starts there.active =
+        let got : RoutineOutcome (pays_routine q) (switch_of there) starts sets there.active =
         routine_outcome S s a (subst (IsCaller s) executes.calls (executor_calls s))
         q.node.registers q.node.used is.1 costs (pays_routine q) there_is executes.goes_on
         (subst
@@ -377,16 +364,17 @@ module _ (S : System) (p : ℕ) (c : Weights) (held : ℕ → ℕ → ℕ) (pric
         (pays_by m.owner S p c held (instruction_at S m.owner m.place) prices q)
         (instruction_at S m.owner m.place) m) ≡ true)
         is.0 pays) in
-        active_fits (starts + 1) q.cost got.next there.active (switch_of there) got.paid got.own
+        active_fits (starts + (sets + 1)) q.cost got.next there.active (switch_of there) got.paid
+        got.own
 
     pub routine_pays : nodes_pay S p c held prices ≡ true
         → is_told (table_of prices) (of_routine (switch_of s) a) ≡ true → TakesIn S costs s a
     routine_pays pay told =
         told_from alone (of_routine (switch_of s) a)
-        (left_behind_routine S costs s a + (starts + 1)) prices told
+        (left_behind_routine S costs s a + (starts + (sets + 1))) prices told
         (each_passing
         (λ q. is_at q.node (of_routine (switch_of s) a) ≡ true
-        → left_behind_routine S costs s a + (starts + 1) ≤ q.cost)
+        → left_behind_routine S costs s a + (starts + (sets + 1)) ≤ q.cost)
         (node_pays S p c held prices) prices (λ q pays at. taken_of q at pays) pay)
 
 pub nodes_pay_for_all : NodesPay

@@ -12,7 +12,7 @@ use Rattle.osek_base.specs.Tick.{answered, at_values, executed}
 use Rattle.osek_base.specs.Types.{ServiceCall}
 use Rattle.law_alarms.specs.Setting.{call_in}
 use Rattle.law_costs.specs.Left.{Switch, Weights, is_off, switch_of}
-use Rattle.law_costs.specs.Routines.{started_by, started_where}
+use Rattle.law_costs.specs.Routines.{set_by, set_where, started_by, started_where}
 use Rattle.law_nodes.specs.Nodes.{Node, Table, is_told, of_routine}
 use Rattle.law_nodes.specs.Prices.{all_outcomes}
 use Rattle.law_nodes.specs.Services.{caller_by, refusals_of, replied}
@@ -22,17 +22,17 @@ use Rattle.law_nodes.proofs.Refusing.{refusals_told}
 use Rattle.law_nodes.proofs.Returning.{active_told, routine_moves, routine_replied}
 use Rattle.law_nodes.proofs.Standing.{node_of}
 use Rattle.law_nodes.proofs.Telling.{routine_tells}
-use Rattle.law_nodes.proofs.Starting.{all_first, started_same}
+use Rattle.law_nodes.proofs.Starting.{all_first, set_same, started_same}
 
-pub record RoutineOutcome (pays : Table → ℕ → Bool) (v : Switch) (started : ℕ)
+pub record RoutineOutcome (pays : Table → ℕ → ℕ → Bool) (v : Switch) (started set : ℕ)
     (active : Option Active) : Type 0 where
   pub next : Table
-  pub paid : pays next started ≡ true
+  pub paid : pays next started set ≡ true
   pub own : IfSome active (λ b. is_told next (of_routine v b) ≡ true)
 
 module _ (S : System) (s : State) (a : Active) (calls : s.active ≡ Some a)
     (registers : List (Option ℕ)) (used : ℕ) (all : AreValues registers a.context.registers)
-    (c : Weights) (pays : Table → ℕ → Bool) where
+    (c : Weights) (pays : Table → ℕ → ℕ → Bool) where
   abbrev x : Context
   x = a.context
 
@@ -48,7 +48,8 @@ module _ (S : System) (s : State) (a : Active) (calls : s.active ≡ Some a)
   abbrev Outcome : Instr → Type 0
   Outcome what =
       RoutineOutcome pays (switch_of (e what))
-      (started_by S c (RoutineCalls a) s (call_in x what)) (e what).active
+      (started_by S c (RoutineCalls a) s (call_in x what))
+      (set_by S c (RoutineCalls a) s (call_in x what)) (e what).active
 
   service_outcome : (call : ServiceCall) → all_outcomes S c pays (Instr.Service call) n ≡ true
       → Outcome (Instr.Service call)
@@ -56,9 +57,14 @@ module _ (S : System) (s : State) (a : Active) (calls : s.active ≡ Some a)
   service_outcome call passes = record {
     next = replied S n call refusal;
     paid =
-        ap (pays (replied S n call refusal)) (started_same c x call (answer refusal))
+        ap
+        (λ k. pays (replied S n call refusal) k (set_where c (answer refusal) (at_values x call)))
+        (started_same c x call (answer refusal))
+        ∙ ap (pays (replied S n call refusal) (started_where c (answer refusal) call))
+        (set_same c x call (answer refusal))
         ∙ all_first
-        (λ o. pays (replied S n call o) (started_where c (answer o) call))
+        (λ o. pays (replied S n call o) (started_where c (answer o) call)
+        (set_where c (answer o) call))
         ((Some (is_off (switch_of s)), Status.SysDisabled)
         ∷ refusals_of S (caller_by who []) registers call)
         ((interrupts_off s, Status.SysDisabled)

@@ -1,4 +1,5 @@
--- What passes of each answer that there may be passes of the one that is; what a call starts.
+-- What passes of each answer that there may be passes of the one that is; what a call starts and
+-- sets.
 use Rattle.std.proofs.Common.{◌≡◌, Bool, true, false, cond, List, [], ◌∷◌, refl, sym, ◌∙◌, ap}
 use Rattle.std.specs.Prelude.{Option, Some, None}
 use Rattle.std.specs.List.{list_all}
@@ -11,7 +12,7 @@ use Rattle.osek_base.specs.Tick.{at_values}
 use Rattle.osek_base.specs.Types.{ServiceCall}
 use Rattle.law_costs.specs.Left.{Weights}
 use Rattle.law_costs.specs.Paying.{start_of}
-use Rattle.law_costs.specs.Routines.{started_where}
+use Rattle.law_costs.specs.Routines.{set_of, set_where, started_where}
 use Rattle.law_nodes.specs.Services.{first_refusals}
 use Rattle.law_nodes.proofs.Refusing.{AreTold}
 
@@ -40,7 +41,7 @@ module _ (passes : Option Status → Bool) where
       sym (ap (λ c. passes (cond c (Some f) (first_refusal rs))) told.0)
       ∙ all_first ts rs (told.2 (sym told.0)) all
 
--- ---- what a call starts goes by no register
+-- ---- what a call starts and sets goes by no register
 
 start_same : (c : Weights) (x : Context) (call : ServiceCall)
     → start_of c (at_values x call) ≡ start_of c call
@@ -76,3 +77,24 @@ started_same c x call Status.Resource = refl
 started_same c x call Status.State = refl
 started_same c x call Status.Value = refl
 started_same c x call Status.SysDisabled = refl
+
+which_set : (c : Weights) (x : Context) (call : ServiceCall)
+    → set_of c (at_values x call) ≡ set_of c call
+which_set c x (Service.SetRelAlarm None increment cycle) = refl
+which_set c x (Service.SetRelAlarm (Some a) increment cycle) = refl
+which_set c x (Service.SetAbsAlarm None start cycle) = refl
+which_set c x (Service.SetAbsAlarm (Some a) start cycle) = refl
+which_set c x _ = refl
+
+pub set_same : (c : Weights) (x : Context) (call : ServiceCall) (status : Status)
+    → set_where c status (at_values x call) ≡ set_where c status call
+set_same c x call Status.Ok = which_set c x call
+set_same c x call Status.Access = refl
+set_same c x call Status.CallLevel = refl
+set_same c x call Status.Id = refl
+set_same c x call Status.Limit = refl
+set_same c x call Status.NoFunc = refl
+set_same c x call Status.Resource = refl
+set_same c x call Status.State = refl
+set_same c x call Status.Value = refl
+set_same c x call Status.SysDisabled = refl

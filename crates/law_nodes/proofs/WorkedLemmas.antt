@@ -31,4 +31,14 @@ worked = record {
   looping_pays = refl;
   held_too_cheap = refl;
   event_too_cheap = refl;
+  timing_closed = refl;
+  timing_pays = refl;
+  setting_too_cheap = refl;
+  boot_too_cheap = refl;
+  begin_too_cheap = refl;
+  set_again = refl;
+  shielding_closed = refl;
+  shielding_pays = refl;
+  section_too_short = refl;
+  shield_too_cheap = refl;
 }

@@ -15,12 +15,12 @@ use Rattle.law_windows.specs.Analysis.{AreAlwaysEnough, IsBoundOf}
 use Rattle.law_windows.specs.Expiring.{most_expiries}
 use Rattle.law_windows.specs.Routines.{begun}
 use Rattle.law_costs.specs.Laws.{Pay}
-use Rattle.law_costs.specs.Left.{Weights, is_off, on}
+use Rattle.law_costs.specs.Left.{Weights, is_off, of_all_alarms, on}
 use Rattle.law_costs.specs.Paying.{is_upper, start_of}
 use Rattle.law_nodes.specs.Closed.{is_closed, known_by}
 use Rattle.law_nodes.specs.Early.{bits, is_mask, is_set, sum_besides, sum_of}
 use Rattle.law_nodes.specs.Nodes.{Node, covers, is_at, of_job, of_routine, woken_node}
-use Rattle.law_nodes.specs.Setting.{are_set_slowly}
+use Rattle.law_nodes.specs.Setting.{are_set_once, are_set_slowly}
 use Rattle.law_nodes.specs.Prices.{Priced, highest, nodes_pay, priced_by, table_of}
 
 -- ---- sections that a dispatch begins
@@ -82,15 +82,22 @@ is_covered_by S p c e prices q =
 
 -- ---- what comes
 
+-- an expiry, with what its alarm holds that is set
 abbrev pub alarms_pay : System → Weights → Bool
 alarms_pay S c =
-    list_all (λ a. nat_le (start_of c (action_call (alarm S a).action)) (c.costs.of_expiry a))
+    list_all
+    (λ a. nat_le (start_of c (action_call (alarm S a).action))
+    (c.costs.of_expiry a + c.of_alarm a))
     (below (length S.alarms))
 
+-- where a window begins, whatever alarms are set
 abbrev pub boot_pays : System → ℕ → ℕ → Weights → Bool
 boot_pays S mode p c =
-    nat_le (sum_by c.of_task (filter (is_upper S p) (starting_tasks S mode))) c.costs.at_boot
-    && nat_le c.of_section c.costs.at_boot && nat_le c.of_section c.costs.at_begin
+    nat_le
+    (sum_by c.of_task (filter (is_upper S p) (starting_tasks S mode)) + of_all_alarms S c)
+    c.costs.at_boot
+    && nat_le (c.of_section + of_all_alarms S c) c.costs.at_boot
+    && nat_le (c.of_section + of_all_alarms S c) c.costs.at_begin
 
 -- ---- all of it
 
@@ -108,6 +115,7 @@ prices_pay S mode p c e prices =
     nodes_pay S p (with_events c e) e.held prices
     && list_all (is_covered_by S p (with_events c e) e prices) prices
     && alarms_pay S (with_events c e) && boot_pays S mode p (with_events c e) && events_pay S e
+    && are_set_once S mode c (table_of prices)
 
 -- ---- the laws
 

@@ -9,8 +9,8 @@ use Rattle.osek_base.specs.Lists.{greatest}
 use Rattle.osek_base.specs.Service.{answer}
 use Rattle.osek_base.specs.System.{System, instruction_at, priority_of}
 use Rattle.law_costs.specs.Jobs.{PayForJobs, left_of_section}
-use Rattle.law_costs.specs.Left.{Weights, is_off}
-use Rattle.law_costs.specs.Routines.{PayForRoutines, started_where}
+use Rattle.law_costs.specs.Left.{Weights, is_off, of_all_alarms}
+use Rattle.law_costs.specs.Routines.{PayForRoutines, set_where, started_where}
 use Rattle.law_nodes.specs.Closed.{known_by}
 use Rattle.law_nodes.specs.Early.{held_early, lesser, freed_early}
 use Rattle.law_nodes.specs.Nodes.{Node, Standing, Table, covers, is_at, of_job, of_routine}
@@ -64,46 +64,59 @@ abbrev pub may_count : System → ℕ → Node → Bool
 may_count S p n =
     not (is_some n.waits_for) && (is_off n.switch || nat_le p (highest S n.owner n.held))
 
--- ---- what an instruction leaves and starts
+-- whether it counts behind its instruction in any case: interrupts are off, so all services are
+-- refused, and by its internal resource, which it has taken, it goes before the tasks below the
+-- level
+abbrev pub stays_counted : System → ℕ → Node → Bool
+stays_counted S p n = is_off n.switch && nat_le p (highest S n.owner n.held)
+
+-- ---- what an instruction leaves, starts and sets
 
 -- whether a node covers that one whose cost and what is added are no more than the most
 abbrev pub is_paid : List Priced → ℕ → ℕ → Node → Bool
 is_paid prices more most m =
     list_any (λ q. covers q.node m && nat_le (q.cost + more) most) prices
 
+-- the section of a dispatch, which is left with interrupts off where a job doesn't count behind the
+-- instruction
+abbrev pub section_behind : System → ℕ → Weights → Node → ℕ
+section_behind S p c n = if stays_counted S p n then 0 else left_of_section c n.switch
+
 -- .. each step of a job that may count, which may cost more by the events that it goes on by; and
--- with interrupts off, the section of a dispatch, which is left where the job doesn't count behind
--- it
+-- the section
 abbrev pub job_fits : System → ℕ → Weights → (Node → ℕ) → List Priced → Node → ℕ → ℕ → Table
     → Bool
 job_fits S p c by prices n more most next =
     list_all (λ m. not (may_count S p m) || is_paid prices more (most + by m) m) next
-    && nat_le (left_of_section c n.switch + more) most
+    && nat_le (section_behind S p c n + more) most
 
 -- .. each step of a routine
 abbrev pub routine_fits : List Priced → ℕ → ℕ → Table → Bool
 routine_fits prices more most next =
     list_all (is_paid prices more most) next && nat_le more most
 
--- whether the cost of a node pays for steps and what is started with them: one less is left at
--- least; of a lower job no more than may be where a window begins
+-- whether the cost of a node pays for steps and what is started and set with them: one less is left
+-- at least; of a lower job no more than may be where a window begins, whatever alarms are set
 abbrev pub pays_by : Owner → System → ℕ → Weights → (ℕ → ℕ → ℕ) → Instr → List Priced → Priced
-    → Table → ℕ → Bool
-pays_by (Owner.Task t) S p c held what prices q next start =
+    → Table → ℕ → ℕ → Bool
+pays_by (Owner.Task t) S p c held what prices q next start set =
     (not (may_count S p q.node)
-    || job_fits S p c (freed_early S p held t what q.node) prices q.node (start + 1) q.cost next)
+    || job_fits S p c (freed_early S p held t what q.node) prices q.node (start + (set + 1)) q.cost
+    next)
     && (nat_le p (priority_of S t)
-    || job_fits S p c (λ m. 0) prices q.node start c.costs.at_begin next)
-pays_by (Owner.Routine i) S p c held what prices q next start =
-    routine_fits prices (start + 1) q.cost next
+    || job_fits S p c (λ m. 0) prices q.node (start + of_all_alarms S c) c.costs.at_begin next)
+pays_by (Owner.Routine i) S p c held what prices q next start set =
+    routine_fits prices (start + (set + 1)) q.cost next
 
--- whether a test passes of what may become of who is at a node, and what is started with that: by
--- each answer that a service may give
-abbrev pub all_outcomes : System → Weights → (Table → ℕ → Bool) → Instr → Node → Bool
+-- whether a test passes of what may become of who is at a node, and what is started and set with
+-- that: by each answer that a service may give
+abbrev pub all_outcomes : System → Weights → (Table → ℕ → ℕ → Bool) → Instr → Node → Bool
 all_outcomes S c pays (Instr.Service call) n =
-    list_all (λ refusal. pays (replied S n call refusal) (started_where c (answer refusal) call))
+    list_all
+    (λ refusal. pays (replied S n call refusal) (started_where c (answer refusal) call)
+    (set_where c (answer refusal) call))
     (answers S n call)
-all_outcomes S c pays what n = pays (steps_by S what n) 0
+all_outcomes S c pays what n = pays (steps_by S what n) 0 0
 
 -- whether the cost of a node pays for the instruction there. Who waits executes none
 abbrev pub node_pays : System → ℕ → Weights → (ℕ → ℕ → ℕ) → List Priced → Priced → Bool

@@ -1,4 +1,4 @@
--- Nodes of three small systems by hand.
+-- Nodes of four small systems by hand.
 use Rattle.std.specs.Prelude.{ℕ, ◌≡◌, true, false, if◌then◌else◌, ◌==◌, List, [], ◌∷◌, ◌++◌, Option, Some, None, drop, map}
 use Rattle.osek_base.specs.declared.ids.Owner.{Owner}
 use Rattle.osek_base.specs.declared.ids.ResId.{ResId}
@@ -8,9 +8,11 @@ use Rattle.osek_base.specs.declared.instr.Instr.{Instr}
 use Rattle.osek_base.specs.declared.instr.Operation.{Operation}
 use Rattle.osek_base.specs.declared.instr.Plain.{Plain}
 use Rattle.osek_base.specs.declared.instr.Service.{Service}
+use Rattle.osek_base.specs.declared.task.Action.{Action}
 use Rattle.osek_base.specs.declared.task.Property.{Property}
+use Rattle.osek_base.specs.declared.task.Schedule.{Schedule}
 use Rattle.osek_base.specs.System.{System, Task, no_task}
-use Rattle.law_costs.specs.Left.{Weights}
+use Rattle.law_costs.specs.Left.{Weights, on}
 use Rattle.law_nodes.specs.Closed.{is_closed}
 use Rattle.law_nodes.specs.Nodes.{Node, Table, fresh_node}
 use Rattle.law_nodes.specs.Paid.{EventCosts, prices_pay}
@@ -144,6 +146,64 @@ looped =
     zero_at 0 ∷ record (zero_at 1) { used = 1 } ∷ zero_at 2 ∷ zero_at 3
     ∷ record (zero_at 1) { waits_for = Some 1 } ∷ []
 
+-- ---- a task that sets an alarm, which activates another task
+
+abbrev pub of_level : List Instr → Task
+of_level program = record no_task { priority = 1; activation = 1; program = program }
+
+abbrev pub timing : ℕ → System
+timing cycle =
+    record (of_task no_task) {
+      tasks =
+          of_level
+          (Instr.Plain (Plain.Li 1 5) ∷ Instr.Plain (Plain.Li 2 cycle)
+          ∷ Instr.Service (Service.SetRelAlarm (Some 0) 1 2)
+          ∷ Instr.Service Service.TerminateTask ∷ Instr.Plain (Plain.Jmp 4) ∷ [])
+          ∷ of_level (Instr.Service Service.TerminateTask ∷ Instr.Plain (Plain.Jmp 1) ∷ []) ∷ [];
+      counters = record { max_allowed_value = 9; ticks_per_base = 1; min_cycle = 1 } ∷ [];
+      alarms =
+          record { counter = 0; action = Action.ActivateTask 1; autostart = None } ∷ [];
+    }
+
+-- the alarm may be in use: behind SetRelAlarm r0 isn't known
+abbrev pub timed : ℕ → Table
+timed cycle =
+    at 0 (Some 0) (Some 0) (Some 0) ∷ at 1 (Some 0) (Some 5) (Some 0)
+    ∷ at 2 (Some 0) (Some 5) (Some cycle) ∷ at 3 None (Some 5) (Some cycle)
+    ∷ record (at 0 (Some 0) (Some 0) (Some 0)) { owner = Owner.Task 1 } ∷ []
+
+-- ---- a NON task that turns interrupts off and on, below one that ends at once
+
+abbrev pub shielding : System
+shielding =
+    record (of_task no_task) {
+      tasks =
+          record no_task {
+            priority = 1;
+            schedule = Schedule.Non;
+            activation = 1;
+            program =
+                Instr.Control Control.DisableAllInterrupts ∷ Instr.Plain Plain.Nop
+                ∷ Instr.Control Control.EnableAllInterrupts
+                ∷ Instr.Service Service.TerminateTask ∷ Instr.Plain (Plain.Jmp 4) ∷ [];
+          }
+          ∷ record no_task {
+            priority = 2;
+            activation = 1;
+            program = Instr.Service Service.TerminateTask ∷ Instr.Plain (Plain.Jmp 1) ∷ [];
+          } ∷ [];
+    }
+
+-- it finds them off
+abbrev pub off_at : ℕ → Node
+off_at place = record (zero_at place) { switch = record on { disabled = true } }
+
+-- each of its instructions, and that of the other task
+abbrev pub shielded : Table
+shielded =
+    zero_at 0 ∷ off_at 1 ∷ off_at 2 ∷ zero_at 3
+    ∷ record (zero_at 0) { owner = Owner.Task 1 } ∷ []
+
 -- ---- what they cost
 
 -- what the first event costs, and what it holds where it is set early
@@ -163,6 +223,7 @@ weights task arrival =
       of_task = λ t. task;
       of_event = λ t m. 0;
       of_section = 0;
+      of_alarm = λ a. 0;
       costs =
           record { of_arrival = λ i. arrival; of_expiry = λ a. 0; at_boot = 0; at_begin = 0 };
     }
@@ -191,7 +252,34 @@ waited_early = with_costs waited (3 ∷ 2 ∷ 1 ∷ 1 ∷ 1 ∷ 3 ∷ 1 ∷ [])
 abbrev pub looped_costs : List Priced
 looped_costs = with_costs looped (1 ∷ 4 ∷ 3 ∷ 2 ∷ 1 ∷ [])
 
+-- of the shielding task all four instructions are one section, and the other task has one
+abbrev pub shielded_costs : List Priced
+shielded_costs = with_costs shielded (4 ∷ 3 ∷ 2 ∷ 1 ∷ 1 ∷ [])
+
+-- costs of the other task, and of a section that a dispatch begins
+abbrev pub with_section : ℕ → Weights
+with_section cost =
+    record (weights 0 0) {
+      of_task = λ t. if t == 1 then 1 else 0;
+      of_section = cost;
+      costs = record (weights 0 0).costs { at_boot = cost; at_begin = cost };
+    }
+
 -- ---- what they come to
+
+-- the first task pays for the one instruction of the other, and where a window begins the alarm may
+-- be set
+abbrev pub timed_weights : ℕ → ℕ → Weights
+timed_weights boot begin =
+    record (weights 0 0) {
+      of_task = λ t. if t == 0 then 5 else 1;
+      of_alarm = λ a. 1;
+      costs =
+          record { of_arrival = λ i. 0; of_expiry = λ a. 0; at_boot = boot; at_begin = begin };
+    }
+
+abbrev pub timed_costs : ℕ → List Priced
+timed_costs cycle = with_costs (timed cycle) (5 ∷ 4 ∷ 3 ∷ 1 ∷ 1 ∷ [])
 
 pub record WorkedNodes : Type 0 where
   -- each node has the next one for its only step, and the last one none
@@ -244,3 +332,25 @@ pub record WorkedNodes : Type 0 where
   pub looping_pays : prices_pay looping 0 1 (weights 1 0) (of_first 4 4) looped_costs ≡ true
   pub held_too_cheap : prices_pay looping 0 1 (weights 1 0) (of_first 4 3) looped_costs ≡ false
   pub event_too_cheap : prices_pay looping 0 1 (weights 1 0) (of_first 3 3) looped_costs ≡ false
+  -- who sets the alarm pays for what its expiry starts, and so does each window that begins
+  pub timing_closed : is_closed (timing 0) (timed 0) ≡ true
+  pub timing_pays : prices_pay (timing 0) 0 1 (timed_weights 1 1) (of_first 0 0) (timed_costs 0)
+      ≡ true
+  pub setting_too_cheap : prices_pay (timing 0) 0 1 (timed_weights 1 1) (of_first 0 0)
+      (with_costs (timed 0) (4 ∷ 3 ∷ 2 ∷ 1 ∷ 1 ∷ [])) ≡ false
+  pub boot_too_cheap : prices_pay (timing 0) 0 1 (timed_weights 0 1) (of_first 0 0) (timed_costs 0)
+      ≡ false
+  pub begin_too_cheap : prices_pay (timing 0) 0 1 (timed_weights 1 0) (of_first 0 0) (timed_costs 0)
+      ≡ false
+  -- .. and an alarm with a cycle may not pay, as it stays set
+  pub set_again : prices_pay (timing 5) 0 1 (timed_weights 1 1) (of_first 0 0) (timed_costs 5)
+      ≡ false
+  -- the level above the NON task has a bound by the section that its dispatch begins: with interrupts
+  -- off it counts behind each instruction, so no other section may begin there
+  pub shielding_closed : is_closed shielding shielded ≡ true
+  pub shielding_pays : prices_pay shielding 0 2 (with_section 4) (of_first 0 0) shielded_costs
+      ≡ true
+  pub section_too_short : prices_pay shielding 0 2 (with_section 3) (of_first 0 0) shielded_costs
+      ≡ false
+  pub shield_too_cheap : prices_pay shielding 0 2 (with_section 4) (of_first 0 0)
+      (with_costs shielded (4 ∷ 3 ∷ 1 ∷ 1 ∷ 1 ∷ [])) ≡ false

@@ -47,7 +47,7 @@ pub fn prices_bound_at_known_ticks()
     ensures one_by_one { PricesBoundAtExpiries }
 {}
 
-/// Nodes of three small systems come to what was worked by hand.
+/// Nodes of four small systems come to what was worked by hand.
 pub fn worked_nodes()
     ensures { WorkedNodes }
 {}

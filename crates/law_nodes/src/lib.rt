@@ -34,23 +34,27 @@
 //!   (`with_held`); a lower one, and a routine, the price alone. Of several nodes it is the least,
 //!   and nothing where it is at none (`cost_of`).
 //! - A price pays for the instruction at its node (`node_pays`) if each step is covered by a node
-//!   that costs one less at least, and less by what is started where the service isn't refused. Of
-//!   a job that is asked where it may count, and of its steps where they may: as if its internal
-//!   resource is taken. With interrupts off it is more than the section of a dispatch besides,
-//!   whether the job goes on counting or not. Of a task below the level, no more is left than may
-//!   be where a window begins. Behind a WaitEvent that goes on, where none of its events was used,
-//!   a step may cost more by the least that one of them holds (`freed_early`). So costs pay for all
-//!   instructions of whom the table tells (`nodes_pay_for_all`).
+//!   that costs one less at least, and less by what is started and set where the service isn't
+//!   refused. Of a job that is asked where it may count, and of its steps where they may: as if its
+//!   internal resource is taken. With interrupts off it is more than the section of a dispatch
+//!   besides, unless the job goes on counting in any case (`stays_counted`): all services are
+//!   refused then, and who executes has taken its internal resource. Of a task below the level, no
+//!   more is left than may be where a window begins, whatever alarms are set. Behind a WaitEvent
+//!   that goes on, where none of its events was used, a step may cost more by the least that one of
+//!   them holds (`freed_early`). So costs pay for all instructions of whom the table tells
+//!   (`nodes_pay_for_all`).
 //! - Prices pay (`prices_pay`) where besides each is 1 at least, and is paid by what begins there:
 //!   an activation, an interrupt, a dispatch, and each event that a node waits for, with all that
-//!   others hold which it may find set then; and an event costs what it holds. Then they make costs
-//!   that pay in the sense of `law_costs` (`prices_pay_for_all`).
+//!   others hold which it may find set then; and an event costs what it holds. An alarm that pays
+//!   when it is set pays for its expiry: boot and each node that sets it set it without a cycle
+//!   (`are_set_once`). Then they make costs that pay in the sense of `law_costs`
+//!   (`prices_pay_for_all`).
 //! - Where each node that sets an alarm sets it no sooner than is said (`are_set_slowly`), such
 //!   prices bound each window and each response (`prices_bound_responses`).
 //! - So they do where expiries of alarms that only boot starts are counted by the known ticks that
 //!   lie in a window (`prices_bound_at_known_ticks`).
 //!
-//! All of these tests are functions to Bool over lists, so code can answer them exactly; and three
+//! All of these tests are functions to Bool over lists, so code can answer them exactly; and four
 //! small systems come to what was worked by hand (`worked_nodes`). `analysis_nodes` and
 //! `analysis_bounds` make tables and prices, and ask these tests of them.
 #![tactic(auto)]
