@@ -136,8 +136,8 @@ module _ (S : System) (g : Graph) (lengths : List ℕ)
   node_long n l count all_are linked long =
       go (is_of_task n.owner) refl (is_some n.waits_for) linked.ways_told
     where
-      follows : Table → ℕ → Bool
-      follows next start = are_followed longs count next
+      follows : Table → ℕ → ℕ → Bool
+      follows next start set = are_followed longs count next
 
       go : (task : Bool) → is_of_task n.owner ≡ task → (waits : Bool)
           → AreWays (table_of g) l.ways.items

@@ -14,3 +14,4 @@ pub mod BoundLemmas
 pub mod RefusingLemmas
 pub mod TickLemmas
 pub mod KnownBoundLemmas
+pub mod AboveLemmas

@@ -14,7 +14,8 @@ use Rattle.law_costs.specs.Left.{Weights, is_off, on}
 use Rattle.law_nodes.specs.Early.{bits, is_set, is_mask, sum_besides}
 use Rattle.law_nodes.specs.Nodes.{Node, Standing, covers, is_at, is_beside, of_job, of_routine, woken_node}
 use Rattle.law_nodes.specs.Paid.{EventCosts, alarms_pay, boot_pays, events_pay, is_covered_by, is_woken, is_woken_by, may_rise, pays_fresh, pays_woken, prices_pay}
-use Rattle.law_nodes.specs.Prices.{Priced, node_pays, nodes_pay}
+use Rattle.law_nodes.specs.Prices.{Priced, node_pays, nodes_pay, table_of as nodes_priced}
+use Rattle.law_nodes.specs.Setting.{are_set_once}
 use Rattle.law_nodes.specs.Values.{may_be, may_have}
 use Rattle.law_nodes.proofs.Standing.{at_is, node_of}
 use Rattle.analysis_nodes.specs.declared.graph.Graph.{Graph}
@@ -27,7 +28,8 @@ use Rattle.analysis_nodes.specs.Nodes.{node_by}
 use Rattle.analysis_bounds.specs.declared.level.Level.{Level}
 use Rattle.analysis_bounds.specs.Checks.{ArePaying, BeginsWithEnough, HasPrices, IsEnough, IsFreshPaid, IsFreshPaidBy, IsWokenPaid, IsWokenPaidBy, WaitCosts, WokenCosts, begins, priced_at}
 use Rattle.analysis_bounds.specs.Levels.{by_event, event_costs_of, numbered, priced, weights_of}
-use Rattle.analysis_bounds.proofs.WayLemmas.{also_there, mapped, pays_by_ways, priced_any}
+use Rattle.analysis_bounds.proofs.BoundLemmas.{priced_nodes}
+use Rattle.analysis_bounds.proofs.WayLemmas.{also_there, mapped, pays_by_ways, priced_any, unless_true}
 
 -- ---- by number
 
@@ -117,10 +119,6 @@ module _ (S : System) (g : Graph) (level : Level) (number : ℕ) (n m : Kept) (l
   unless_both true false c h = refl
   unless_both false b c h = refl
 
-  unless_one : (a c : Bool) → (a ≡ true → c ≡ true) → (not a || c) ≡ true
-  unless_one true c h = h refl
-  unless_one false c h = refl
-
   fresh_paid : (who : Owner) → IsFreshPaidBy who S level (node_by n) price
       → pays_fresh who S level.priority (weights_of level) (priced_at n price) ≡ true
   fresh_paid (Owner.Task t) h =
@@ -130,7 +128,7 @@ module _ (S : System) (g : Graph) (level : Level) (number : ℕ) (n m : Kept) (l
       (λ upper at.
       h upper (begins_of (node_by n) (of_job on (new_job (record { task = t; serial = 0 }))) refl at))
   fresh_paid (Owner.Routine i) h =
-      unless_one (is_at (node_by n) (of_routine on (begun i)))
+      unless_true (is_at (node_by n) (of_routine on (begun i)))
       (nat_le price (numbered level.arrivals.items i))
       (λ at. h (begins_of (node_by n) (of_routine on (begun i)) refl at))
 
@@ -139,7 +137,7 @@ module _ (S : System) (g : Graph) (level : Level) (number : ℕ) (n m : Kept) (l
       (priced (table_of g) level.prices.items) (priced_at n price)
       ≡ true
   woken_paid (Owner.Task t) h =
-      unless_one (nat_le level.priority (priority_of S t))
+      unless_true (nat_le level.priority (priority_of S t))
       (is_woken (by_event level.holds.items t) (by_event level.sets.items t)
       (priced (table_of g) level.prices.items) n.waits_for (node_by n))
       (λ upper. go n.waits_for refl (h upper))
@@ -282,11 +280,16 @@ module _ (S : System) (mode : ℕ) (g : Graph) (level : Level) where
       → alarms_pay S (weights_of level) ≡ true
       → boot_pays S mode level.priority (weights_of level) ≡ true
       → events_pay S (event_costs_of level) ≡ true
+      → are_set_once S mode (weights_of level) (table_of g) ≡ true
       → prices_pay S mode level.priority (weights_of level) (event_costs_of level)
       (priced (table_of g) level.prices.items)
       ≡ true
-  all_pay_so has paying alarms boot events =
+  all_pay_so has paying alarms boot events once =
       and_from
+      (nodes_pay S p c e.held prices && list_all (is_covered_by S p c e prices) prices
+      && alarms_pay S c && boot_pays S mode p c && events_pay S e)
+      (are_set_once S mode c (nodes_priced prices))
+      (and_from
       (nodes_pay S p c e.held prices && list_all (is_covered_by S p c e prices) prices
       && alarms_pay S c && boot_pays S mode p c)
       (events_pay S e)
@@ -305,4 +308,5 @@ module _ (S : System) (mode : ℕ) (g : Graph) (level : Level) where
       (λ number low. (paying number low).1)))
       alarms)
       boot)
-      events
+      events)
+      (ap (are_set_once S mode c) (priced_nodes g.nodes.items level.prices.items has) ∙ once)

@@ -8,12 +8,11 @@ use Rattle.osek_base.specs.declared.instr.Instr.{Instr}
 use Rattle.osek_base.specs.declared.status.Status.{Status}
 use Rattle.osek_base.specs.System.{System, instruction_at, priority_of}
 use Rattle.law_runs.proofs.Lists.{all_weaker, clash, none_some, some_inside}
-use Rattle.law_costs.specs.Jobs.{left_of_section}
-use Rattle.law_costs.specs.Left.{Weights}
+use Rattle.law_costs.specs.Left.{Weights, is_off, of_all_alarms}
 use Rattle.law_costs.specs.Paying.{is_upper}
 use Rattle.law_nodes.specs.Early.{freed_early}
 use Rattle.law_nodes.specs.Nodes.{Node, Standing, Table, covers, is_beside, is_within}
-use Rattle.law_nodes.specs.Prices.{Priced, all_outcomes, is_paid, job_fits, may_count, node_pays, pays_by, routine_fits}
+use Rattle.law_nodes.specs.Prices.{Priced, all_outcomes, highest, is_paid, job_fits, may_count, node_pays, pays_by, routine_fits, section_behind}
 use Rattle.law_nodes.specs.Values.{know_no_more, may_have}
 use Rattle.law_nodes.proofs.Knowing.{AreValues, may_have_of}
 use Rattle.law_nodes.proofs.Standing.{at_is}
@@ -25,10 +24,11 @@ use Rattle.analysis_nodes.specs.declared.node.Node.{Node as Kept}
 use Rattle.analysis_nodes.specs.Graph.{AreCoveredBy, AreWays, IsCoveredBy, IsGraph, IsLinked, IsWay, table_of}
 use Rattle.analysis_nodes.specs.Laws.{OutcomesAreAll}
 use Rattle.analysis_nodes.specs.Nodes.{node_by}
-use Rattle.analysis_nodes.specs.Outcomes.{Outcome, cost_of_start, outcomes, outcomes_by}
+use Rattle.analysis_nodes.specs.declared.outcome.Start.{Start}
+use Rattle.analysis_nodes.specs.Outcomes.{Outcome, cost_of_alarm, cost_of_start, outcomes, outcomes_by}
 use Rattle.analysis_bounds.specs.declared.level.Level.{Level}
-use Rattle.analysis_bounds.specs.Checks.{AreFitting, AreWithin, BeginsWithEnough, Fits, HasPrices, IsEnough, IsWithin, Pays, freed_at, freed_on, freed_where, is_counted, is_lower, left_of, priced_at}
-use Rattle.analysis_bounds.specs.Levels.{event_costs_of, priced, weights_of}
+use Rattle.analysis_bounds.specs.Checks.{AreFitting, AreWithin, BeginsWithEnough, Fits, HasPrices, IsEnough, IsWithin, Pays, cost_of_way, freed_at, freed_on, freed_where, is_counted, is_lower, left_of, priced_at}
+use Rattle.analysis_bounds.specs.Levels.{event_costs_of, numbered, priced, weights_of}
 use Rattle.analysis_bounds.proofs.FreeLemmas.{Frees, all_free}
 
 -- ---- a node that covers another is the same but for registers
@@ -92,18 +92,30 @@ priced_any test (m ∷ table) (k ∷ prices) (suc i) n price there paid passes =
     second_of (test (record { node = m; cost = k })) (list_any test (priced table prices))
     (priced_any test table prices i n price there paid passes)
 
--- ---- one number more or less on both sides
+pub unless_true : (b x : Bool) → (b ≡ true → x ≡ true) → (not b || x) ≡ true
+unless_true true x h = h refl
+unless_true false x h = refl
 
-pub one_more : (x more most : ℕ) → nat_le (x + more) most ≡ true
-    → nat_le (x + (more + 1)) (suc most) ≡ true
-one_more x more most h =
-    le-leb (x + (more + 1)) (suc most) (omega (arith, leb-true (x + more) most h))
+-- ---- as much more on both sides
 
-more_freed : (x more most freed : ℕ) → nat_le (x + more) (most + freed) ≡ true
-    → nat_le (x + (more + 1)) (suc most + freed) ≡ true
-more_freed x more most freed h =
-    le-leb (x + (more + 1)) (suc most + freed)
-    (omega (arith, leb-true (x + more) (most + freed) h))
+module _ (more over most room besides : ℕ) (more_is : over ≡ more + besides)
+    (most_is : room ≡ most + besides) where
+  more_fits : (x : ℕ) → nat_le (x + more) most ≡ true → nat_le (x + over) room ≡ true
+  more_fits x h =
+      le-leb (x + over) room (omega (arith, more_is, most_is, leb-true (x + more) most h))
+
+  more_freed : (x freed : ℕ) → nat_le (x + more) (most + freed) ≡ true
+      → nat_le (x + over) (room + freed) ≡ true
+  more_freed x freed h =
+      le-leb (x + over) (room + freed)
+      (omega (arith, more_is, most_is, leb-true (x + more) (most + freed) h))
+
+-- who sets an alarm where none pays
+none_set : (start : Start) → cost_of_alarm (numbered []) start ≡ 0
+none_set Start.Nothing = refl
+none_set (Start.Activates t) = refl
+none_set (Start.Sets t m) = refl
+none_set (Start.SetsAlarm a) = refl
 
 module _ (S : System) (g : Graph) (level : Level) (has : HasPrices g level) where
   abbrev prices : List Priced
@@ -143,10 +155,6 @@ module _ (S : System) (g : Graph) (level : Level) (has : HasPrices g level) wher
       counted (Owner.Task t) n over k = ap (may_count S p) (covering_is n m over) ∙ k
       counted (Owner.Routine i) n over k = refl
 
-  unless_true : (b x : Bool) → (b ≡ true → x ≡ true) → (not b || x) ≡ true
-  unless_true true x h = h refl
-  unless_true false x h = refl
-
   -- each that may count, which has so much room by the law at least
   abbrev HaveRoom : Owner → (Node → ℕ) → ℕ → Table → Type 0
   HaveRoom owner room most next =
@@ -172,25 +180,64 @@ module _ (S : System) (g : Graph) (level : Level) (has : HasPrices g level) wher
 
   -- ---- ways
 
-  -- what a way leaves, with what is started and perhaps one more
+  -- what a way leaves, with what is started and set and perhaps more
   record FitsBy (n : Node) (numbers : List ℕ) (more most freed : ℕ) : Type 0 where
     by_next : AreWithin S g level n.owner more (most + freed) numbers (length numbers)
-    by_less : nat_le (left_of n.owner c n.switch + more) most ≡ true
+    by_less : nat_le (left_of n.owner S p c n + more) most ≡ true
 
-  fits_by : (n : Node) (w : Way) (most freed start : ℕ) → cost_of_start c w.start ≡ start
-      → Fits S g level n w most freed
-      → FitsBy n w.next.items start most (freed_where w.refusal freed)
-  fits_by n w most freed start same fits =
-      subst (λ more. FitsBy n w.next.items more most (freed_where w.refusal freed)) same
-      (record { by_next = fits.all_next; by_less = fits.all_less })
+  fits_by : (n : Node) (w : Way) (alarms : List ℕ) (most freed : ℕ) (start : Start)
+      → w.start ≡ start → Fits S g level n w alarms most freed
+      → FitsBy n w.next.items (cost_of_way level alarms start) most
+      (freed_where w.refusal freed)
+  fits_by n w alarms most freed start same fits =
+      subst
+      (λ k. FitsBy n w.next.items (cost_of_way level alarms k) most
+      (freed_where w.refusal freed))
+      same (record { by_next = fits.all_next; by_less = fits.all_less })
 
-  fits_more : (n : Node) (numbers : List ℕ) (more most freed : ℕ)
-      → FitsBy n numbers more most freed → FitsBy n numbers (more + 1) (suc most) freed
-  fits_more n numbers more most freed fits = record {
+  fits_more : (n : Node) (numbers : List ℕ) (more over most room besides freed : ℕ)
+      → over ≡ more + besides → room ≡ most + besides
+      → FitsBy n numbers more most freed → FitsBy n numbers over room freed
+  fits_more n numbers more over most room besides freed more_is most_is fits = record {
     by_next = λ place low m price there paid counts.
-        more_freed price more most freed (fits.by_next place low m price there paid counts);
-    by_less = one_more (left_of n.owner c n.switch) more most fits.by_less;
+        more_freed more over most room besides more_is most_is price freed
+        (fits.by_next place low m price there paid counts);
+    by_less =
+        more_fits more over most room besides more_is most_is (left_of n.owner S p c n)
+        fits.by_less;
   }
+
+  -- of who may count, one less than the price is enough
+  fits_one : (n : Node) (w : Way) (most freed : ℕ) (start : Start) → w.start ≡ start
+      → Fits S g level n w level.alarms.items most freed
+      → FitsBy n w.next.items
+      (cost_of_start c start + (cost_of_alarm c.of_alarm start + 1)) (suc most)
+      (freed_where w.refusal freed)
+  fits_one n w most freed start same fits =
+      fits_more n w.next.items (cost_of_way level level.alarms.items start)
+      (cost_of_start c start + (cost_of_alarm c.of_alarm start + 1)) most (suc most) 1
+      (freed_where w.refusal freed) (omega arith) (omega arith)
+      (fits_by n w level.alarms.items most freed start same fits)
+
+  -- .. and of a lower job, all alarms may be set besides
+  fits_besides : (n : Node) (w : Way) (most : ℕ) (start : Start) → w.start ≡ start
+      → level.at_begin ≡ most + of_all_alarms S c → Fits S g level n w [] most 0
+      → FitsBy n w.next.items (cost_of_start c start + of_all_alarms S c) level.at_begin
+      (freed_where w.refusal 0)
+  fits_besides n w most start same begin fits =
+      fits_more n w.next.items (cost_of_way level [] start)
+      (cost_of_start c start + of_all_alarms S c) most level.at_begin (of_all_alarms S c)
+      (freed_where w.refusal 0)
+      (let none = none_set start in
+      omega (arith, none))
+      begin (fits_by n w [] most 0 start same fits)
+
+  section_left : (off high : Bool)
+      → cond (off && high) 0 (cond off level.section 0)
+      ≡ cond (off && not (off && high)) level.section 0
+  section_left true true = refl
+  section_left true false = refl
+  section_left false high = refl
 
   -- the same of a job, and of a routine
   job_fits_by : (t : ℕ) (n : Node) (by : Node → ℕ) (numbers : List ℕ) (more most freed : ℕ)
@@ -199,14 +246,17 @@ module _ (S : System) (g : Graph) (level : Level) (has : HasPrices g level) wher
       → FitsBy n numbers more most freed → job_fits S p c by prices n more most next ≡ true
   job_fits_by t n by numbers more most freed next is covered free fits =
       and_from (list_all (λ m. not (may_count S p m) || is_paid prices more (most + by m) m) next)
-      (nat_le (left_of_section c n.switch + more) most)
+      (nat_le (section_behind S p c n + more) most)
       (next_fit (Owner.Task t) (λ m. most + by m) more (most + freed) numbers next covered
       (subst (λ who. AreWithin S g level who more (most + freed) numbers (length numbers)) is
       fits.by_next)
       (all_weaker (λ m. may_count S p m ≡ true → freed ≤ by m)
       (λ m. may_count S p m ≡ true → most + freed ≤ most + by m) next
       (λ m h counts. let less = h counts in omega (arith, less)) free))
-      (ap (λ who. nat_le (left_of who c n.switch + more) most) (sym is) ∙ fits.by_less)
+      (ap (λ left. nat_le (left + more) most)
+      (section_left (is_off n.switch) (nat_le p (highest S n.owner n.held))
+      ∙ ap (λ who. left_of who S p c n) (sym is))
+      ∙ fits.by_less)
 
   routine_fits_by : (i : ℕ) (n : Node) (numbers : List ℕ) (more most freed : ℕ) (next : Table)
       → n.owner ≡ Owner.Routine i → freed ≡ 0 → AreCoveredBy (table_of g) numbers next
@@ -220,8 +270,8 @@ module _ (S : System) (g : Graph) (level : Level) (has : HasPrices g level) wher
       (le-leb more most
       (omega (
         arith,
-        leb-true (left_of (Owner.Routine i) c n.switch + more) most
-            (ap (λ who. nat_le (left_of who c n.switch + more) most) (sym is) ∙ fits.by_less),
+        leb-true (left_of (Owner.Routine i) S p c n + more) most
+            (ap (λ who. nat_le (left_of who S p c n + more) most) (sym is) ∙ fits.by_less),
       )))
     where
       rooms : (table : Table) → HaveRoom (Owner.Routine i) (λ m. most) (most + freed) table
@@ -252,22 +302,24 @@ module _ (S : System) (g : Graph) (level : Level) (has : HasPrices g level) wher
     abbrev Passes : Owner → Outcome → Type 0
     Passes who o =
         pays_by who S p c held what prices (record { node = n; cost = price }) o.next
-        (cost_of_start c o.start)
+        (cost_of_start c o.start) (cost_of_alarm c.of_alarm o.start)
         ≡ true
 
     job_pays : (t : ℕ) → n.owner ≡ Owner.Task t → (place : ℕ) → place < length ways → (w : Way)
         → slice_get ways place ≡ Some w → (o : Outcome) → IsWay (table_of g) w o
         → Frees S level t n what o → Passes (Owner.Task t) o
     job_pays t is place low w there o way free =
-        and_from (not (may_count S p n) || job_fits S p c early prices n (start + 1) price o.next)
+        and_from (not (may_count S p n) || job_fits S p c early prices n own price o.next)
         (nat_le p (priority_of S t)
-        || job_fits S p c (λ m. 0) prices n start level.at_begin o.next)
-        (unless_true (may_count S p n) (job_fits S p c early prices n (start + 1) price o.next)
-        takes)
+        || job_fits S p c (λ m. 0) prices n lower level.at_begin o.next)
+        (unless_true (may_count S p n) (job_fits S p c early prices n own price o.next) takes)
         (or_lower (nat_le p (priority_of S t)) refl)
       where
-        start : ℕ
-        start = cost_of_start c o.start
+        own : ℕ
+        own = cost_of_start c o.start + (cost_of_alarm c.of_alarm o.start + 1)
+
+        lower : ℕ
+        lower = cost_of_start c o.start + of_all_alarms S c
 
         early : Node → ℕ
         early m = freed_early S p held t what n m
@@ -285,27 +337,23 @@ module _ (S : System) (g : Graph) (level : Level) (has : HasPrices g level) wher
             ∙ ap (λ who. freed_where w.refusal (freed_on who S level what n.used)) (sym is))
             free
 
-        takes : may_count S p n ≡ true
-            → job_fits S p c early prices n (start + 1) price o.next ≡ true
+        takes : may_count S p n ≡ true → job_fits S p c early prices n own price o.next ≡ true
         takes counts =
             let room = enough (ap (λ who. is_counted who S p n) is ∙ counts) in
-            subst (λ cost. job_fits S p c early prices n (start + 1) cost o.next ≡ true)
-            (sym room.1)
-            (job_fits_by t n early w.next.items (start + 1) (suc room.0)
-            (freed_where w.refusal freed) o.next is way.next_covered free_by
-            (fits_more n w.next.items start room.0 (freed_where w.refusal freed)
-            (fits_by n w room.0 freed start (ap (cost_of_start c) way.same_start)
-            (room.2 place low w there))))
+            subst (λ cost. job_fits S p c early prices n own cost o.next ≡ true) (sym room.1)
+            (job_fits_by t n early w.next.items own (suc room.0) (freed_where w.refusal freed)
+            o.next is way.next_covered free_by
+            (fits_one n w room.0 freed o.start way.same_start (room.2 place low w there)))
 
         or_lower : (b : Bool) → nat_le p (priority_of S t) ≡ b
-            → (b || job_fits S p c (λ m. 0) prices n start level.at_begin o.next) ≡ true
+            → (b || job_fits S p c (λ m. 0) prices n lower level.at_begin o.next) ≡ true
         or_lower true upper = refl
         or_lower false upper =
-            job_fits_by t n (λ m. 0) w.next.items start level.at_begin
+            let room = begins (ap (is_lower S p) is ∙ ap not upper) in
+            job_fits_by t n (λ m. 0) w.next.items lower level.at_begin
             (freed_where w.refusal 0) o.next is way.next_covered
             (none_free (freed_where w.refusal 0) (freed_zero w.refusal 0 refl) o.next)
-            (fits_by n w level.at_begin 0 start (ap (cost_of_start c) way.same_start)
-            (begins (ap (is_lower S p) is ∙ ap not upper) place low w there))
+            (fits_besides n w room.0 o.start way.same_start room.1 (room.2 place low w there))
 
     way_pays : (who : Owner) → n.owner ≡ who → (place : ℕ) → place < length ways → (w : Way)
         → slice_get ways place ≡ Some w → (o : Outcome) → IsWay (table_of g) w o
@@ -314,16 +362,15 @@ module _ (S : System) (g : Graph) (level : Level) (has : HasPrices g level) wher
         job_pays t is place low w there o way free
     way_pays (Owner.Routine i) is place low w there o way free =
         let room = enough (ap (λ who. is_counted who S p n) is) in
-        let start = cost_of_start c o.start in
+        let own = cost_of_start c o.start + (cost_of_alarm c.of_alarm o.start + 1) in
         let freed = freed_where w.refusal (freed_at S level n) in
-        subst (λ cost. routine_fits prices (start + 1) cost o.next ≡ true) (sym room.1)
-        (routine_fits_by i n w.next.items (start + 1) (suc room.0) freed o.next is
+        subst (λ cost. routine_fits prices own cost o.next ≡ true) (sym room.1)
+        (routine_fits_by i n w.next.items own (suc room.0) freed o.next is
         (freed_zero w.refusal (freed_at S level n)
         (ap (λ who. freed_on who S level what n.used) is))
         way.next_covered
-        (fits_more n w.next.items start room.0 freed
-        (fits_by n w room.0 (freed_at S level n) start (ap (cost_of_start c) way.same_start)
-        (room.2 place low w there))))
+        (fits_one n w room.0 (freed_at S level n) o.start way.same_start
+        (room.2 place low w there)))
 
   -- ---- all ways of a node
 
@@ -361,6 +408,7 @@ module _ (S : System) (g : Graph) (level : Level) (has : HasPrices g level) wher
       pays o =
           pays_by n.owner S p c held (instruction_at S n.owner n.place) prices
           (record { node = n; cost = price }) o.next (cost_of_start c o.start)
+          (cost_of_alarm c.of_alarm o.start)
 
       go : (b : Bool) → is_some n.waits_for ≡ b
           → AreWays (table_of g) l.ways.items

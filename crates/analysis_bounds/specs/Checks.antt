@@ -1,5 +1,5 @@
 -- What is checked of prices, number by number.
-use Rattle.std.specs.Prelude.{ℕ, suc, ◌+◌, ◌≡◌, ◌<◌, Bool, true, false, not, ◌&&◌, ◌||◌, ◌==◌, nat_le, if◌then◌else◌, List, Option, Some, None, is_some, length, replicate, slice_get, slice_index_or, bit_and}
+use Rattle.std.specs.Prelude.{ℕ, suc, ◌+◌, ◌≡◌, ◌<◌, Bool, true, false, not, ◌&&◌, ◌||◌, ◌==◌, nat_le, if◌then◌else◌, List, [], Option, Some, None, is_some, length, replicate, slice_get, slice_index_or, bit_and}
 use Rattle.std.specs.List.{list_all}
 use Rattle.osek_base.specs.declared.ids.Owner.{Owner}
 use Rattle.osek_base.specs.declared.instr.Instr.{Instr}
@@ -7,13 +7,12 @@ use Rattle.osek_base.specs.declared.status.Status.{Status}
 use Rattle.osek_base.specs.Lists.{is_empty}
 use Rattle.osek_base.specs.System.{System, alarm, instruction_at}
 use Rattle.osek_base.specs.Tick.{action_call}
-use Rattle.law_costs.specs.Jobs.{left_of_section}
-use Rattle.law_costs.specs.Left.{Switch, Weights, is_off}
+use Rattle.law_costs.specs.Left.{Weights, is_off, of_all_alarms}
 use Rattle.law_costs.specs.Paying.{is_upper, start_of}
 use Rattle.law_nodes.specs.Early.{awaited, bits, holds_events, is_mask, is_set, least_in, sum_besides}
 use Rattle.law_nodes.specs.Nodes.{Node}
 use Rattle.law_nodes.specs.Paid.{is_covered_by}
-use Rattle.law_nodes.specs.Prices.{Priced, may_count, node_pays}
+use Rattle.law_nodes.specs.Prices.{Priced, may_count, node_pays, stays_counted}
 use Rattle.law_nodes.specs.Values.{may_have}
 use Rattle.analysis_nodes.specs.declared.graph.Graph.{Graph}
 use Rattle.analysis_nodes.specs.declared.graph.Links.{Links}
@@ -21,7 +20,8 @@ use Rattle.analysis_nodes.specs.declared.graph.Way.{Way}
 use Rattle.analysis_nodes.specs.declared.node.Node.{Node as Kept}
 use Rattle.analysis_nodes.specs.Graph.{table_of}
 use Rattle.analysis_nodes.specs.Nodes.{node_by}
-use Rattle.analysis_nodes.specs.Outcomes.{cost_of_start}
+use Rattle.analysis_nodes.specs.declared.outcome.Start.{Start}
+use Rattle.analysis_nodes.specs.Outcomes.{cost_of_alarm, cost_of_start}
 use Rattle.analysis_bounds.specs.declared.level.Level.{Level}
 use Rattle.analysis_bounds.specs.Levels.{by_event, event_costs_of, numbered, priced, weights_of}
 
@@ -35,10 +35,15 @@ abbrev pub is_lower : System → ℕ → Owner → Bool
 is_lower S p (Owner.Task t) = not (is_upper S p t)
 is_lower S p (Owner.Routine i) = false
 
--- where interrupts are off for a job, the section of a dispatch may be left
-abbrev pub left_of : Owner → Weights → Switch → ℕ
-left_of (Owner.Task t) c w = left_of_section c w
-left_of (Owner.Routine i) c w = 0
+-- whether a dispatch may begin a section behind the instruction at a node: interrupts are off there
+-- for a job, and it need not count behind that
+abbrev pub leaves_section : Owner → System → ℕ → Node → Bool
+leaves_section (Owner.Task t) S p n = is_off n.switch && not (stays_counted S p n)
+leaves_section (Owner.Routine i) S p n = false
+
+-- then that is left
+abbrev pub left_of : Owner → System → ℕ → Weights → Node → ℕ
+left_of who S p c n = if leaves_section who S p n then c.of_section else 0
 
 -- whether who begins may be at a node
 abbrev pub begins : Node → Bool
@@ -88,33 +93,43 @@ AreWithin S g level owner more most numbers count =
     (place : ℕ) → place < count
     → IsWithin S g level owner more most (slice_index_or numbers place 0)
 
--- a way on from a node, with what is started, leaves no more than the most, and what is freed
--- besides
-pub record Fits (S : System) (g : Graph) (level : Level) (n : Node) (w : Way) (most freed : ℕ)
-    : Type 0 where
-  pub all_next : AreWithin S g level n.owner (cost_of_start (weights_of level) w.start)
+-- what a way starts costs, with an alarm that it sets, by what each of those costs
+abbrev pub cost_of_way : Level → List ℕ → Start → ℕ
+cost_of_way level alarms start =
+    cost_of_start (weights_of level) start + cost_of_alarm (numbered alarms) start
+
+-- a way on from a node, with what is started and set, leaves no more than the most, and what is
+-- freed besides
+pub record Fits (S : System) (g : Graph) (level : Level) (n : Node) (w : Way) (alarms : List ℕ)
+    (most freed : ℕ) : Type 0 where
+  pub all_next : AreWithin S g level n.owner (cost_of_way level alarms w.start)
       (most + freed_where w.refusal freed) w.next.items (length w.next.items)
   pub all_less : nat_le
-      (left_of n.owner (weights_of level) n.switch + cost_of_start (weights_of level) w.start) most
+      (left_of n.owner S level.priority (weights_of level) n
+      + cost_of_way level alarms w.start)
+      most
       ≡ true
 
 -- .. the first of some ways
-abbrev pub AreFitting : System → Graph → Level → Node → List Way → ℕ → ℕ → ℕ → Type 0
-AreFitting S g level n ways most freed count =
+abbrev pub AreFitting : System → Graph → Level → Node → List Way → List ℕ → ℕ → ℕ → ℕ → Type 0
+AreFitting S g level n ways alarms most freed count =
     (place : ℕ) → place < count → (w : Way) → slice_get ways place ≡ Some w
-    → Fits S g level n w most freed
+    → Fits S g level n w alarms most freed
 
 -- one less than a price is enough for each way of who may count
 abbrev pub IsEnough : System → Graph → Level → Node → List Way → ℕ → Type 0
 IsEnough S g level n ways price =
     is_counted n.owner S level.priority n ≡ true
-    → (most : ℕ) × (price ≡ suc most) × AreFitting S g level n ways most (freed_at S level n) (length ways)
+    → (most : ℕ) × (price ≡ suc most)
+    × AreFitting S g level n ways level.alarms.items most (freed_at S level n) (length ways)
 
--- of a task below the level no more is left than may be where a window begins
+-- of a task below the level no more is left than may be where a window begins, besides all alarms:
+-- one that it sets is among them
 abbrev pub BeginsWithEnough : System → Graph → Level → Node → List Way → Type 0
 BeginsWithEnough S g level n ways =
     is_lower S level.priority n.owner ≡ true
-    → AreFitting S g level n ways level.at_begin 0 (length ways)
+    → (most : ℕ) × (level.at_begin ≡ most + of_all_alarms S (weights_of level))
+    × AreFitting S g level n ways [] most 0 (length ways)
 
 -- ---- what begins
 
@@ -195,10 +210,10 @@ ArePaying S g level count =
 
 -- ---- alarms
 
--- an expiry of an alarm pays for what that starts
+-- an expiry of an alarm pays for what that starts, with what is paid when it is set
 abbrev pub alarm_pays : System → Weights → ℕ → Bool
 alarm_pays S c a =
-    nat_le (start_of c (action_call (alarm S a).action)) (c.costs.of_expiry a)
+    nat_le (start_of c (action_call (alarm S a).action)) (c.costs.of_expiry a + c.of_alarm a)
 
 -- ---- events
 

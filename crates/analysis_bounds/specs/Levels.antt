@@ -46,6 +46,7 @@ weights_of level =
       of_task = numbered level.tasks.items;
       of_event = λ t m. sum_of (by_event level.sets.items t) m;
       of_section = level.section;
+      of_alarm = numbered level.alarms.items;
       costs = costs_of level;
     }
 

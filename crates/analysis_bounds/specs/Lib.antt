@@ -2,6 +2,7 @@ pub mod Levels
 pub mod Events
 pub mod Checks
 pub mod Pacing
+pub mod Paying
 pub mod Coming
 pub mod Timing
 pub mod KnownTicks
@@ -10,3 +11,4 @@ pub mod Lengths
 pub mod Told
 pub mod Refusing
 pub mod Analysed
+pub mod Above

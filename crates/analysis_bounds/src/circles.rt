@@ -1,11 +1,11 @@
 //! Why there is no bound. For people: nothing is proved of it but safety.
 
 use crate::beginning::begins;
-use crate::counting::{Started, needs_section, started_by};
 use crate::events::is_set;
 use crate::level::Level;
 use crate::needs::{Item, Needs, event_number, item_of, number_of};
-use crate::standing::may_rise;
+use crate::standing::{leaves_section, may_rise};
+use crate::started::{missing_of_started, started_by, started_by_alarm};
 use crate::waits::{early_events, is_freed};
 use crate::ways::is_lower;
 use analysis_nodes::{Graph, Way};
@@ -21,31 +21,10 @@ pub enum NoBound {
     Activations { task: usize },
     /// Events of the task of that number do.
     Events { task: usize },
-    /// A job of a task below the level may go round in a section in which it is at that node, or
-    /// turns interrupts off in one.
+    /// A job of a task below the level may go round in a section in which it is at that node.
     Section { node: usize },
     /// More is to be done than there are ticks.
     Overload { level: Level },
-}
-
-/// What isn't known of what is started.
-fn missing_of_started(needs: &Needs, started: Started) -> Option<Item> {
-    match started {
-        Started::Nothing => None,
-        Started::Task(task) => {
-            let item = Item::Task(task);
-            (!needs.is_known(item)).then_some(item)
-        }
-        Started::Events { task, mask } => {
-            for event in 0..MAX_EVENTS {
-                let item = Item::Set(event_number(task, event));
-                if is_set(mask, event) && !needs.is_known(item) {
-                    return Some(item);
-                }
-            }
-            None
-        }
-    }
 }
 
 /// What isn't known of what a way leaves and starts.
@@ -63,7 +42,7 @@ fn missing_of_way(
             }
         }
     }
-    missing_of_started(needs, started_by(system, priority, &way.start))
+    missing_of_started(needs, started_by(system, priority, needs, &way.start))
 }
 
 /// What isn't known of what a node needs.
@@ -85,7 +64,7 @@ fn missing_of_node(
             return item;
         }
     }
-    if needs_section(&graph.nodes[number]) && !needs.is_known(Item::Section) {
+    if leaves_section(system, priority, &graph.nodes[number]) && !needs.is_known(Item::Section) {
         Some(Item::Section)
     } else {
         None
@@ -164,6 +143,9 @@ fn missing_of(
         Item::Task(task) => missing_of_task(graph, needs, task),
         Item::Held(number) => missing_of_held(needs, number),
         Item::Set(number) => missing_of_set(needs, number),
+        Item::Alarm(alarm) => {
+            missing_of_started(needs, started_by_alarm(system, priority, alarm))
+        }
         Item::Section => missing_of_section(system, graph, priority, needs),
     }
 }
@@ -213,7 +195,7 @@ struct Circle {
     node: usize,
     task: Option<usize>,
     events: Option<usize>,
-    section: bool,
+    alarm: Option<usize>,
 }
 
 /// A circle with one item more.
@@ -231,10 +213,12 @@ fn with_item(circle: Circle, item: Item) -> Circle {
             events: Some(number / MAX_EVENTS),
             ..circle
         },
-        Item::Section => Circle {
-            section: true,
+        Item::Alarm(alarm) => Circle {
+            alarm: Some(alarm),
             ..circle
         },
+        // It lies in no circle: a job that a dispatch raises needs no other section than its own.
+        Item::Section => circle,
     }
 }
 
@@ -245,7 +229,7 @@ fn circle_of(system: &System, graph: &Graph, priority: u8, needs: &Needs, from: 
         node: usize::MAX,
         task: None,
         events: None,
-        section: false,
+        alarm: None,
     };
     let mut item = from;
     for _ in 0..needs.count() {
@@ -270,7 +254,36 @@ fn is_lower_node(system: &System, graph: &Graph, priority: u8, number: usize) ->
     is_lower(system, priority, &node.owner)
 }
 
-/// The circle because of which there is no price of some item, if there is such an item. An error
+/// The circle because of which there is no number of some item, if there is such an item.
+fn some_circle(
+    alloc: Global,
+    system: &System,
+    graph: &Graph,
+    priority: u8,
+    needs: &Needs,
+) -> Result<Option<Circle>, AllocError> {
+    let Some(from) = first_missing(needs, graph.nodes.len()) else {
+        return Ok(None);
+    };
+    let item = entered(alloc, system, graph, priority, needs, from)?;
+    Ok(Some(circle_of(system, graph, priority, needs, item)))
+}
+
+/// An alarm of the first circle, if there is one. An error is want of memory.
+pub(crate) fn alarm_in_circle(
+    alloc: Global,
+    system: &System,
+    graph: &Graph,
+    priority: u8,
+    needs: &Needs,
+) -> Result<Option<usize>, AllocError> {
+    match some_circle(alloc, system, graph, priority, needs)? {
+        None => Ok(None),
+        Some(circle) => Ok(circle.alarm),
+    }
+}
+
+/// The circle because of which there is no number of some item, if there is such an item. An error
 /// is want of memory.
 pub(crate) fn first_circle(
     alloc: Global,
@@ -279,15 +292,10 @@ pub(crate) fn first_circle(
     priority: u8,
     needs: &Needs,
 ) -> Result<Option<NoBound>, AllocError> {
-    let Some(from) = first_missing(needs, graph.nodes.len()) else {
+    let Some(circle) = some_circle(alloc, system, graph, priority, needs)? else {
         return Ok(None);
     };
-    let item = entered(alloc, system, graph, priority, needs, from)?;
-    let circle = circle_of(system, graph, priority, needs, item);
     let node = circle.node;
-    if circle.section {
-        return Ok(Some(NoBound::Section { node }));
-    }
     if let Some(task) = circle.task {
         return Ok(Some(NoBound::Activations { task }));
     }

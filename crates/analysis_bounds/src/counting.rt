@@ -2,92 +2,18 @@
 
 use crate::beginning::begins;
 use crate::circles::{NoBound, first_circle};
-use crate::events::is_set;
 use crate::level::Level;
 use crate::needs::{Item, Needs, event_number};
-use crate::prices::{cost_of_boot, cost_of_expiry};
-use crate::standing::{is_counted, is_off, is_upper, may_rise};
+use crate::prices::{cost_of_alarms, cost_of_boot, cost_of_expiry};
+use crate::standing::{is_counted, is_upper, leaves_section, may_rise};
+use crate::started::{Started, add_started, cost_of_started, started_by, started_by_alarm};
 use crate::waits::{add_freed, add_wait, cost_of_set, early_events, is_freed, wait_at};
-use crate::ways::{is_lower, number_at};
-use analysis_nodes::{Graph, Links, Node, Start, Way};
+use crate::ways::is_lower;
+use analysis_nodes::{Graph, Links, Node, Way};
 use osek_base::{MAX_EVENTS, ModeId, Owner, System};
 use std::alloc::{AllocError, Global};
 
-/// What a way starts at a level: of a task below it nothing.
-#[derive(Clone, Copy)]
-pub(crate) enum Started {
-    Nothing,
-    Task(usize),
-    /// Events of the mask are set for the task.
-    Events { task: usize, mask: u32 },
-}
-
-/// What a way starts.
-pub(crate) fn started_by(system: &System, priority: u8, start: &Start) -> Started {
-    match start {
-        Start::Nothing => Started::Nothing,
-        Start::Activates(task) => {
-            let task = task.number() as usize;
-            if is_upper(system, priority, task) {
-                Started::Task(task)
-            } else {
-                Started::Nothing
-            }
-        }
-        Start::Sets(task, mask) => {
-            let task = task.number() as usize;
-            if is_upper(system, priority, task) {
-                Started::Events { task, mask: *mask }
-            } else {
-                Started::Nothing
-            }
-        }
-    }
-}
-
-/// What that costs, as far as it is known.
-fn cost_of_started(needs: &Needs, started: Started) -> u64 {
-    match started {
-        Started::Nothing => 0,
-        Started::Task(task) => needs.value(Item::Task(task)),
-        Started::Events { task, mask } => {
-            let mut cost: u64 = 0;
-            for event in 0..MAX_EVENTS {
-                if is_set(mask, event) {
-                    let set = Item::Set(event_number(task, event));
-                    cost = cost.saturating_add(needs.value(set));
-                }
-            }
-            cost
-        }
-    }
-}
-
-/// Whether interrupts are off for a job at a node.
-pub(crate) fn needs_section(node: &Node) -> bool {
-    match &node.owner {
-        Owner::Task(_) => is_off(&node.switch),
-        Owner::Routine(_) => false,
-    }
-}
-
 // ---- who needs whom
-
-/// What an item needs of what is started.
-fn add_started(needs: &mut Needs, who: Item, started: Started) -> Result<(), AllocError> {
-    match started {
-        Started::Nothing => Ok(()),
-        Started::Task(task) => needs.add(who, Item::Task(task)),
-        Started::Events { task, mask } => {
-            for event in 0..MAX_EVENTS {
-                if is_set(mask, event) {
-                    needs.add(who, Item::Set(event_number(task, event)))?;
-                }
-            }
-            Ok(())
-        }
-    }
-}
 
 /// What the price of a node needs by a way; and where that frees what events hold, what these hold.
 fn add_way(
@@ -99,7 +25,7 @@ fn add_way(
     way: &Way,
     early: Option<u32>,
 ) -> Result<(), AllocError> {
-    let started = started_by(system, priority, &way.start);
+    let started = started_by(system, priority, needs, &way.start);
     add_started(needs, Item::Node(number), started)?;
     match early {
         Some(mask) if is_freed(early, way) => add_freed(needs, &node.owner, mask, way),
@@ -125,7 +51,7 @@ fn add_price(
     if number >= graph.nodes.len() || number >= graph.links.len() || !needs.counts(number) {
         return Ok(());
     }
-    if needs_section(&graph.nodes[number]) {
+    if leaves_section(system, priority, &graph.nodes[number]) {
         needs.add(Item::Node(number), Item::Section)?;
     }
     let node = &graph.nodes[number];
@@ -160,17 +86,36 @@ fn add_uses(
     }
 }
 
+/// What alarms need that pay when they are set.
+fn add_alarms(
+    system: &System,
+    priority: u8,
+    needs: &mut Needs,
+    paying: &[bool],
+) -> Result<(), AllocError> {
+    for alarm in 0..paying.len() {
+        needs.push_paying(paying[alarm])?;
+        if paying[alarm] {
+            let started = started_by_alarm(system, priority, alarm);
+            add_started(needs, Item::Alarm(alarm), started)?;
+        }
+    }
+    Ok(())
+}
+
 /// Who needs whom at a level. An error is want of memory.
 fn needs_of(
     alloc: Global,
     system: &System,
     graph: &Graph,
     priority: u8,
+    paying: &[bool],
 ) -> Result<Needs, AllocError> {
     let mut needs = Needs::of(alloc, graph.nodes.len())?;
     for node in &graph.nodes {
         needs.push_counted(is_counted(system, priority, &node.owner, node))?;
     }
+    add_alarms(system, priority, &mut needs, paying)?;
     for number in 0..graph.nodes.len() {
         add_price(system, graph, priority, &mut needs, number)?;
         add_uses(system, priority, &mut needs, number, &graph.nodes[number])?;
@@ -198,9 +143,17 @@ fn left_of_way(needs: &Needs, way: &Way, early: Option<u32>) -> u64 {
     left
 }
 
-/// What the instruction at a node leaves and starts at most.
-fn cost_behind(system: &System, priority: u8, needs: &Needs, node: &Node, links: &Links) -> u64 {
-    let section = if needs_section(node) {
+/// What the instruction at a node leaves and starts at most, with the alarms that it sets, or
+/// without.
+fn cost_behind(
+    system: &System,
+    priority: u8,
+    needs: &Needs,
+    node: &Node,
+    links: &Links,
+    with_alarms: bool,
+) -> u64 {
+    let section = if leaves_section(system, priority, node) {
         needs.value(Item::Section)
     } else {
         0
@@ -209,7 +162,10 @@ fn cost_behind(system: &System, priority: u8, needs: &Needs, node: &Node, links:
     let mut most: u64 = 0;
     for way in &links.ways {
         let left = left_of_way(needs, way, early).max(section);
-        let start = cost_of_started(needs, started_by(system, priority, &way.start));
+        let start = match started_by(system, priority, needs, &way.start) {
+            Started::Alarm(_) if !with_alarms => 0,
+            started => cost_of_started(needs, started),
+        };
         most = most.max(left.saturating_add(start));
     }
     most
@@ -222,7 +178,7 @@ fn price_of(system: &System, graph: &Graph, priority: u8, needs: &Needs, number:
     }
     let node = &graph.nodes[number];
     let links = &graph.links[number];
-    cost_behind(system, priority, needs, node, links).saturating_add(1)
+    cost_behind(system, priority, needs, node, links, true).saturating_add(1)
 }
 
 /// Works out all that can be, in an order in which each comes behind those that it needs.
@@ -244,6 +200,10 @@ fn work_out(
             Item::Set(number) => {
                 let cost = cost_of_set(needs, number);
                 needs.set(item, cost);
+            }
+            Item::Alarm(alarm) => {
+                let started = started_by_alarm(system, priority, alarm);
+                needs.set(item, cost_of_started(needs, started));
             }
             _ => {}
         }
@@ -268,14 +228,14 @@ fn cost_of_arrival(graph: &Graph, needs: &Needs, routine: usize) -> u64 {
     most
 }
 
-/// What the jobs below a level leave and start at most where a window begins.
+/// What the jobs below a level leave and start at most where a window begins, but for alarms.
 fn cost_of_beginning(system: &System, graph: &Graph, priority: u8, needs: &Needs) -> u64 {
     let mut most = needs.value(Item::Section);
     for number in 0..graph.nodes.len().min(graph.links.len()) {
         let node = &graph.nodes[number];
         if is_lower(system, priority, &node.owner) {
             let links = &graph.links[number];
-            most = most.max(cost_behind(system, priority, needs, node, links));
+            most = most.max(cost_behind(system, priority, needs, node, links, false));
         }
     }
     most
@@ -291,6 +251,7 @@ fn nothing(alloc: Global, priority: u8) -> Level {
         section: 0,
         arrivals: Vec::new(alloc),
         expiries: Vec::new(alloc),
+        alarms: Vec::new(alloc),
         at_boot: 0,
         at_begin: 0,
         prices: Vec::new(alloc),
@@ -321,34 +282,69 @@ fn add_costs(
     Ok(())
 }
 
-/// What expiries cost.
-fn add_expiries(system: &System, level: &mut Level) -> Result<(), AllocError> {
+/// What expiries cost, and alarms that pay when they are set.
+fn add_alarm_costs(system: &System, needs: &Needs, level: &mut Level) -> Result<(), AllocError> {
     for alarm in 0..system.alarm_count() {
         let cost = cost_of_expiry(system, level, alarm).unwrap_or(u64::MAX);
-        level.expiries.push(cost)?;
+        if needs.pays(alarm) {
+            level.expiries.push(0)?;
+            level.alarms.push(cost)?;
+        } else {
+            level.expiries.push(cost)?;
+            level.alarms.push(0)?;
+        }
     }
     Ok(())
 }
 
-/// What is counted of the level of a priority, or why it can't be. An error is want of memory.
+/// What is counted of a level, where all items are known.
+fn level_of(
+    alloc: Global,
+    system: &System,
+    mode: ModeId,
+    graph: &Graph,
+    priority: u8,
+    needs: &Needs,
+) -> Result<Level, AllocError> {
+    let mut level = nothing(alloc, priority);
+    add_costs(system, graph, needs, &mut level)?;
+    add_alarm_costs(system, needs, &mut level)?;
+    level.section = needs.value(Item::Section);
+    let set = cost_of_alarms(system, &level).unwrap_or(u64::MAX);
+    let begin = cost_of_beginning(system, graph, priority, needs);
+    level.at_begin = begin.saturating_add(set);
+    let boot = cost_of_boot(system, mode, &level).unwrap_or(u64::MAX);
+    level.at_boot = boot.max(level.section).saturating_add(set);
+    Ok(level)
+}
+
+/// Items of a level, worked out as far as they can be, where some alarms pay when they are set. An
+/// error is want of memory.
+pub(crate) fn worked_out(
+    alloc: Global,
+    system: &System,
+    graph: &Graph,
+    priority: u8,
+    paying: &[bool],
+) -> Result<Needs, AllocError> {
+    let mut needs = needs_of(alloc, system, graph, priority, paying)?;
+    work_out(system, graph, priority, &mut needs)?;
+    Ok(needs)
+}
+
+/// What is counted of the level of a priority, where some alarms pay when they are set, or why it
+/// can't be. An error is want of memory.
 pub fn count_level(
     alloc: Global,
     system: &System,
     mode: ModeId,
     graph: &Graph,
     priority: u8,
+    paying: &[bool],
 ) -> Result<Result<Level, NoBound>, AllocError> {
-    let mut needs = needs_of(alloc, system, graph, priority)?;
-    work_out(system, graph, priority, &mut needs)?;
+    let needs = worked_out(alloc, system, graph, priority, paying)?;
     if let Some(circle) = first_circle(alloc, system, graph, priority, &needs)? {
         return Ok(Err(circle));
     }
-    let mut level = nothing(alloc, priority);
-    add_costs(system, graph, &needs, &mut level)?;
-    add_expiries(system, &mut level)?;
-    level.section = needs.value(Item::Section);
-    level.at_begin = cost_of_beginning(system, graph, priority, &needs);
-    let boot = cost_of_boot(system, mode, &level).unwrap_or(u64::MAX);
-    level.at_boot = boot.max(level.section);
-    Ok(Ok(level))
+    Ok(Ok(level_of(alloc, system, mode, graph, priority, &needs)?))
 }

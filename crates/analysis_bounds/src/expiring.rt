@@ -5,6 +5,7 @@ ghost use Rattle.analysis_nodes.specs.Graph.{IsGraph};
 ghost use Rattle.analysis_bounds.specs.Pacing.{AreKnown};
 
 use crate::pacing::{Pace, paces_of};
+use crate::paying::may_pay;
 use crate::slowness::{are_slow, least_counts};
 use crate::timing::{Timing, timings_of};
 use analysis_nodes::Graph;
@@ -20,6 +21,8 @@ pub struct Alarms {
     pub paces: Vec<Pace>,
     /// When each expires.
     pub timings: Vec<Timing>,
+    /// Whether each may pay when it is set: programs set it, and it never gets a cycle.
+    pub once: Vec<bool>,
 }
 
 /// What is known of the alarms of a system in a mode; None, which isn't seen, where it isn't so. An
@@ -38,9 +41,11 @@ pub fn alarms_of(
     }
     let paces = paces_of(alloc, system, mode, &least)?;
     let timings = timings_of(alloc, system, mode, &least)?;
+    let once = may_pay(alloc, system, mode, graph)?;
     Ok(Some(Alarms {
         least,
         paces,
         timings,
+        once,
     }))
 }

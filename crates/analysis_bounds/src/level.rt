@@ -17,11 +17,14 @@ pub struct Level {
     pub section: u64,
     /// Of an interrupt, by routine.
     pub arrivals: Vec<u64>,
-    /// Of an expiry, by alarm.
+    /// Of an expiry, by alarm; 0 where the alarm pays when it is set.
     pub expiries: Vec<u64>,
-    /// Of what may be left where a window begins with the run.
+    /// Of an alarm that is set, where who sets it pays for its expiry, by alarm; 0 of any other one.
+    pub alarms: Vec<u64>,
+    /// Of what may be left where a window begins with the run, all alarms among it that pay when
+    /// they are set.
     pub at_boot: u64,
-    /// Of what may be left where one begins later.
+    /// Of what may be left where one begins later, likewise.
     pub at_begin: u64,
     /// Of who stands at a node, by node.
     pub prices: Vec<u64>,

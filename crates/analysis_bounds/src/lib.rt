@@ -1,10 +1,12 @@
 //! Bounds of every run, by counting in place of a search. What an analysis tells, no run exceeds
 //! whose interrupts keep their rules. It ends for each system whose graph of nodes isn't too large.
+//! `analyse_upper` says this of an upper part inside every accepted system.
 //!
 //! - Of each level, a static priority, is worked out what activations, events, interrupts, expiries
 //!   and nodes cost, by longest ways through the graph, and how many ticks are enough for its
 //!   windows. Nothing is proved of that but safety. What it comes to is checked, and what is proved
-//!   of the checks is all that counts.
+//!   of the checks is all that counts. Alarms that programs set, and never to a cycle, may pay when
+//!   they are set and not each time that they expire: each level is counted both ways.
 //! - `prices_pay`: at true prices pay as the laws ask, and each node has one. `alarms_of`,
 //!   `are_slow`: where that is known, alarms are set and expire no sooner. `are_enough`: at true so
 //!   many ticks are enough for all that can come.
@@ -14,6 +16,11 @@
 //! - `analyse`: its peaks bound the figures of every run, and of each tick, where a time is below
 //!   the cap (`BoundsAll`). An error is want of memory. Where more than `MAX_NODES` nodes are
 //!   needed it tells nothing.
+//! - `analyse_upper`, which asks for a separable system, analyses the upper part by itself. The part
+//!   is exactly the upper part. Its peaks bound every run of the system and of every one that is
+//!   separable at p and agrees from p upward (`BoundsAllAbove`). Jobs of upper tasks end, and
+//!   routines start, in all of them within their bounds (`JobsEndAbove`, `InterruptsStartAbove`),
+//!   and jobs release upper resources within theirs (`HoldsEndAbove`).
 //! - `routine_share`, `alarm_share`: for people, how often something comes and what it costs.
 //!
 //! Jobs are bounded by windows of their level, so are blocked ticks and holds; latencies by the
@@ -22,6 +29,7 @@
 //! job ends before the next one is made. All other figures are as great as they may always be.
 #![tactic(auto)]
 
+mod above;
 mod activating;
 mod analysis;
 mod beginning;
@@ -39,6 +47,7 @@ mod level;
 mod levels;
 mod needs;
 mod pacing;
+mod paying;
 mod prices;
 mod refusals;
 mod refusing;
@@ -46,6 +55,7 @@ mod rounds;
 mod shares;
 mod slowness;
 mod standing;
+mod started;
 mod starts;
 mod timing;
 mod told;
@@ -53,6 +63,7 @@ mod waits;
 mod ways;
 mod window;
 
+pub use above::{UpperAnalysis, analyse_upper};
 pub use analysis::{Analysis, MAX_NODES, TooMany, analyse};
 pub use circles::NoBound;
 pub use coming::are_enough;

@@ -1,9 +1,10 @@
 //! Items of which a number is to be worked out, and which others each needs for that.
 //!
 //! Items are the nodes by their numbers, and behind them activations of each task, what each event
-//! of each task holds and what it costs, and the section of a dispatch.
+//! of each task holds and what it costs, alarms that pay when they are set, and the section of a
+//! dispatch.
 
-use osek_base::{MAX_EVENTS, MAX_TASKS};
+use osek_base::{MAX_ALARMS, MAX_EVENTS, MAX_TASKS};
 use std::alloc::{AllocError, Global};
 
 /// Stands where a list of edges ends.
@@ -21,6 +22,8 @@ pub(crate) enum Item {
     Held(usize),
     /// What an event costs where it is set, by its number.
     Set(usize),
+    /// What an alarm starts that pays when it is set.
+    Alarm(usize),
     Section,
 }
 
@@ -38,7 +41,10 @@ pub(crate) fn number_of(item: Item, nodes: usize) -> usize {
         Item::Set(event) => nodes
             .saturating_add(MAX_TASKS + EVENTS)
             .saturating_add(event),
-        Item::Section => nodes.saturating_add(MAX_TASKS + 2 * EVENTS),
+        Item::Alarm(alarm) => nodes
+            .saturating_add(MAX_TASKS + 2 * EVENTS)
+            .saturating_add(alarm),
+        Item::Section => nodes.saturating_add(MAX_TASKS + 2 * EVENTS + MAX_ALARMS),
     }
 }
 
@@ -56,6 +62,8 @@ pub(crate) fn item_of(number: usize, nodes: usize) -> Item {
         Item::Held(event)
     } else if event < 2 * EVENTS {
         Item::Set(event - EVENTS)
+    } else if event < 2 * EVENTS + MAX_ALARMS {
+        Item::Alarm(event - 2 * EVENTS)
     } else {
         Item::Section
     }
@@ -81,6 +89,8 @@ pub(crate) struct Needs {
     pub(crate) waits: Vec<Wait>,
     /// Of each node, whether who is there counts.
     counted: Vec<bool>,
+    /// Of each alarm, whether it pays when it is set.
+    paying: Vec<bool>,
     /// Of each item, how many that it needs aren't known.
     missing: Vec<usize>,
     /// Of each item, its first edge, to one that needs it.
@@ -104,6 +114,7 @@ impl Needs {
             nodes,
             waits: Vec::new(alloc),
             counted: Vec::new(alloc),
+            paying: Vec::new(alloc),
             missing: Vec::new(alloc),
             firsts: Vec::new(alloc),
             needing: Vec::new(alloc),
@@ -130,6 +141,17 @@ impl Needs {
     /// Whether who is at a node counts.
     pub(crate) fn counts(&self, node: usize) -> bool {
         node < self.counted.len() && self.counted[node]
+    }
+
+    /// Says of the next alarm whether it pays when it is set. An error is want of memory.
+    pub(crate) fn push_paying(&mut self, pays: bool) -> Result<(), AllocError> {
+        self.paying.push(pays)?;
+        Ok(())
+    }
+
+    /// Whether an alarm pays when it is set.
+    pub(crate) fn pays(&self, alarm: usize) -> bool {
+        alarm < self.paying.len() && self.paying[alarm]
     }
 
     /// The first needs the second. An error is want of memory.

@@ -1,11 +1,12 @@
 //! Whether prices of nodes pay for all that comes.
 
-ghost use Rattle.std.specs.Prelude.{◌≡◌, ◌<◌, ◌&&◌, IfSome, IsTrue, length, true};
+ghost use Rattle.std.specs.Prelude.{◌+◌, ◌≡◌, ◌<◌, ◌&&◌, IfSome, IsTrue, length, nat_le, true};
 ghost use Rattle.std.specs.List.{filter, sum_by};
 ghost use Rattle.osek_base.specs.Lists.{below};
 ghost use Rattle.osek_base.specs.System.{alarm, starts_in};
 ghost use Rattle.osek_base.specs.Tick.{action_call};
 ghost use Rattle.osek_base.specs.Trace.{starting_tasks};
+ghost use Rattle.law_costs.specs.Left.{of_all_alarms};
 ghost use Rattle.law_costs.specs.Paying.{is_upper, start_of};
 ghost use Rattle.law_nodes.specs.Paid.{alarms_pay, boot_pays, events_pay, prices_pay};
 ghost use Rattle.analysis_nodes.specs.Graph.{IsGraph, table_of};
@@ -15,8 +16,9 @@ ghost use Rattle.analysis_bounds.specs.Levels.{event_costs_of, numbered, priced,
 use crate::beginning::node_is_paid;
 use crate::events::{cost_of_set, task_pays_at};
 use crate::level::Level;
+use crate::paying::are_set_once;
 use crate::standing::is_upper;
-use crate::ways::{has_prices, node_count, node_pays, number_at};
+use crate::ways::{fits, has_prices, node_count, node_pays, number_at};
 use analysis_nodes::Graph;
 use osek_base::{Action, ModeId, System};
 
@@ -68,15 +70,37 @@ pub(crate) fn cost_of_expiry(system: &System, level: &Level, number: usize) -> O
     cost_of_action(level, action)
 }
 
-/// Whether an expiry of an alarm pays for what that starts.
+/// Whether a cost is paid by an expiry of an alarm, with what is paid when that is set.
+fn is_paid_by(level: &Level, cost: u64, number: usize) -> bool
+    ensures { IsTrue result → nat_le cost (numbered level.now.expiries.items number
+        + numbered level.now.alarms.items number) ≡ true }
+{
+    match number_at(&level.expiries, number).checked_add(number_at(&level.alarms, number)) {
+        None => false,
+        Some(paid) => cost <= paid,
+    }
+}
+
+/// Whether an expiry of an alarm pays for what that starts, with what is paid when it is set.
 fn alarm_pays(system: &System, level: &Level, number: usize) -> bool
     requires { number < length system.now.alarms }
     ensures { IsTrue result → alarm_pays system.now (weights_of level.now) number ≡ true }
 {
     match cost_of_expiry(system, level, number) {
         None => false,
-        Some(cost) => cost <= number_at(&level.expiries, number),
+        Some(cost) => is_paid_by(level, cost, number),
     }
+}
+
+/// What all alarms cost that pay when they are set; None above 2^64.
+pub(crate) fn cost_of_alarms(system: &System, level: &Level) -> Option<u64>
+    ensures { IfSome result (λ sum. sum ≡ of_all_alarms system.now (weights_of level.now)) }
+{
+    let mut sum: u64 = 0;
+    for number in 0..system.alarm_count() {
+        sum = sum.checked_add(number_at(&level.alarms, number))?;
+    }
+    Some(sum)
 }
 
 /// Whether expiries pay for what alarms start.
@@ -117,19 +141,21 @@ pub(crate) fn cost_of_boot(system: &System, mode: ModeId, level: &Level) -> Opti
 }
 
 /// Whether boot pays for the tasks of the level that start with the mode, and for the section of a
-/// dispatch.
+/// dispatch, where all alarms are set.
 fn boot_pays(system: &System, mode: ModeId, level: &Level) -> bool
     ensures { IsTrue result
         → boot_pays system.now mode level.now.priority (weights_of level.now) ≡ true }
 {
-    match cost_of_boot(system, mode, level) {
-        None => false,
-        Some(sum) => {
-            sum <= level.at_boot
-                && level.section <= level.at_boot
-                && level.section <= level.at_begin
-        }
+    let Some(sum) = cost_of_boot(system, mode, level) else {
+        return false;
+    };
+    let Some(set) = cost_of_alarms(system, level) else {
+        return false;
+    };
+    if !fits(sum, set, level.at_boot) {
+        return false;
     }
+    fits(level.section, set, level.at_boot) && fits(level.section, set, level.at_begin)
 }
 
 /// Whether each event costs what it holds.
@@ -164,5 +190,8 @@ pub fn prices_pay(system: &System, mode: ModeId, graph: &Graph, level: &Level) -
     if !boot_pays(system, mode, level) {
         return false;
     }
-    events_pay(system, level)
+    if !events_pay(system, level) {
+        return false;
+    }
+    are_set_once(system, mode, graph, level)
 }

@@ -43,7 +43,7 @@ pub(crate) fn instruction_of(system: &System, node: &Node) -> Instr
 }
 
 /// The value of a register, if it is known.
-fn known(registers: &[Option<u32>; REGISTERS], register: Register) -> Option<u32>
+pub(crate) fn known(registers: &[Option<u32>; REGISTERS], register: Register) -> Option<u32>
     ensures { result ≡ known registers.now register }
 {
     registers[register.number() as usize]

@@ -7,9 +7,9 @@ ghost use Rattle.osek_base.specs.System.{priority_of};
 ghost use Rattle.law_costs.specs.Left.{is_off};
 ghost use Rattle.law_costs.specs.Paying.{is_upper};
 ghost use Rattle.law_nodes.specs.Paid.{lowest, may_rise};
-ghost use Rattle.law_nodes.specs.Prices.{highest, may_count};
+ghost use Rattle.law_nodes.specs.Prices.{highest, may_count, stays_counted};
 ghost use Rattle.analysis_nodes.specs.Nodes.{node_by, switch_by};
-ghost use Rattle.analysis_bounds.specs.Checks.{is_counted};
+ghost use Rattle.analysis_bounds.specs.Checks.{is_counted, leaves_section};
 
 use analysis_nodes::{Node, Switch};
 use osek_base::{Owner, ResId, System};
@@ -87,6 +87,27 @@ pub(crate) fn may_count(system: &System, priority: u8, node: &Node) -> bool
     let off = is_off(&node.switch);
     let highest = highest(system, &node.owner, &node.held);
     !waits && (off || priority <= highest)
+}
+
+/// Whether a job at a node counts at a level behind its instruction in any case: interrupts are off,
+/// so all services are refused, and with its internal resource its priority is of the level.
+fn stays_counted(system: &System, priority: u8, node: &Node) -> bool
+    ensures { result ≡ stays_counted system.now priority (node_by node.now) }
+{
+    let off = is_off(&node.switch);
+    let highest = highest(system, &node.owner, &node.held);
+    off && priority <= highest
+}
+
+/// Whether a dispatch may begin a section behind the instruction at a node: interrupts are off there
+/// for a job, and it need not count behind that.
+pub(crate) fn leaves_section(system: &System, priority: u8, node: &Node) -> bool
+    ensures { result ≡ leaves_section node.now.owner system.now priority (node_by node.now) }
+{
+    match &node.owner {
+        Owner::Task(_) => is_off(&node.switch) && !stays_counted(system, priority, node),
+        Owner::Routine(_) => false,
+    }
 }
 
 /// Whether a dispatch may raise a job at a node to a level.

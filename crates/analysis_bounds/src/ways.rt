@@ -3,8 +3,8 @@
 ghost use Rattle.std.specs.Prelude.{◌+◌, ◌≡◌, ◌<◌, IfSome, IsTrue, length, nat_le};
 ghost use Rattle.law_nodes.specs.Early.{awaited, holds_events};
 ghost use Rattle.analysis_nodes.specs.Graph.{IsGraph};
-ghost use Rattle.analysis_nodes.specs.Nodes.{node_by, switch_by};
-ghost use Rattle.analysis_nodes.specs.Outcomes.{cost_of_start};
+ghost use Rattle.analysis_nodes.specs.Nodes.{node_by};
+ghost use Rattle.analysis_nodes.specs.Outcomes.{cost_of_alarm, cost_of_start};
 ghost use Rattle.analysis_bounds.specs.Checks.{
   AreFitting,
   AreWithin,
@@ -14,6 +14,7 @@ ghost use Rattle.analysis_bounds.specs.Checks.{
   IsEnough,
   IsWithin,
   Pays,
+  cost_of_way,
   freed_at,
   freed_of,
   freed_where,
@@ -24,8 +25,9 @@ ghost use Rattle.analysis_bounds.specs.Levels.{by_event, numbered, weights_of};
 
 use crate::events::{cost_of_set, least_in};
 use crate::level::Level;
+use crate::prices::cost_of_alarms;
 use crate::slowness::instruction_of;
-use crate::standing::{is_counted, is_off, is_upper};
+use crate::standing::{is_counted, is_upper, leaves_section};
 use analysis_nodes::{Graph, Node, Start, Way, outcomes_are_all};
 use osek_base::{Instr, Owner, Service, Status, System, TaskId};
 
@@ -76,15 +78,33 @@ pub(crate) fn price_at(level: &Level, number: usize) -> u64
     number_at(&level.prices, number)
 }
 
-/// What a service starts costs so much; None above 2^64.
-pub(crate) fn cost_of_start(level: &Level, start: &Start) -> Option<u64>
+/// What a service starts costs so much, but for an alarm; None above 2^64.
+fn cost_of_start(level: &Level, start: &Start) -> Option<u64>
     ensures { IfSome result (λ cost. cost ≡ cost_of_start (weights_of level.now) start.now) }
 {
     match start {
         Start::Nothing => Some(0),
         Start::Activates(task) => Some(number_at(&level.tasks, task.number() as usize)),
         Start::Sets(task, mask) => cost_of_set(level, task.number(), *mask),
+        Start::SetsAlarm(_) => Some(0),
     }
+}
+
+/// What an alarm costs that a service sets, by what each costs.
+fn cost_of_alarm(alarms: &[u64], start: &Start) -> u64
+    ensures { result ≡ cost_of_alarm (numbered alarms.now) start.now }
+{
+    match start {
+        Start::SetsAlarm(alarm) => number_at(alarms, alarm.number() as usize),
+        _ => 0,
+    }
+}
+
+/// What a service starts and sets costs so much; None above 2^64.
+fn cost_of_way(level: &Level, alarms: &[u64], start: &Start) -> Option<u64>
+    ensures { IfSome result (λ cost. cost ≡ cost_of_way level.now alarms.now start.now) }
+{
+    cost_of_start(level, start)?.checked_add(cost_of_alarm(alarms, start))
 }
 
 /// The events that an instruction waits for, if it waits.
@@ -151,14 +171,15 @@ fn freed_where(refusal: &Option<Status>, freed: u64) -> u64
     }
 }
 
-/// The section of a dispatch, where interrupts are off for a job at a node.
-pub(crate) fn left_of(level: &Level, node: &Node) -> u64
-    ensures { result ≡ left_of node.now.owner (weights_of level.now) (switch_by node.now.switch) }
+/// The section that a dispatch may begin behind the instruction at a node.
+fn left_of(system: &System, level: &Level, node: &Node) -> u64
+    ensures { result ≡ left_of node.now.owner system.now level.now.priority (weights_of level.now)
+        (node_by node.now) }
 {
-    let off = is_off(&node.switch);
-    match node.owner {
-        Owner::Task(_) if off => level.section,
-        _ => 0,
+    if leaves_section(system, level.priority, node) {
+        level.section
+    } else {
+        0
     }
 }
 
@@ -207,27 +228,28 @@ fn are_within(
     true
 }
 
-/// Whether a way on from a node leaves, with what is started, no more than the most, and what is
-/// freed besides.
+/// Whether a way on from a node leaves, with what is started and set, no more than the most, and
+/// what is freed besides.
 fn way_fits(
     system: &System,
     graph: &Graph,
     level: &Level,
     node: &Node,
     way: &Way,
+    alarms: &[u64],
     most: u64,
     freed: u64,
 ) -> bool
-    ensures { IsTrue result
-        → Fits system.now graph.now level.now (node_by node.now) way.now most freed }
+    ensures { IsTrue result → Fits system.now graph.now level.now (node_by node.now) way.now
+        alarms.now most freed }
 {
-    let Some(more) = cost_of_start(level, &way.start) else {
+    let Some(more) = cost_of_way(level, alarms, &way.start) else {
         return false;
     };
     let Some(most_behind) = most.checked_add(freed_where(&way.refusal, freed)) else {
         return false;
     };
-    if !fits(left_of(level, node), more, most) {
+    if !fits(left_of(system, level, node), more, most) {
         return false;
     }
     are_within(
@@ -248,21 +270,24 @@ fn ways_fit(
     level: &Level,
     node: &Node,
     ways: &[Way],
+    alarms: &[u64],
     most: u64,
     freed: u64,
 ) -> bool
     ensures { IsTrue result → AreFitting system.now graph.now level.now (node_by node.now)
-        ways.now most freed (length ways.now) }
+        ways.now alarms.now most freed (length ways.now) }
 {
     for place in 0..ways.len() {
-        if !way_fits(system, graph, level, node, &ways[place], most, freed) {
+        let way = &ways[place];
+        if !way_fits(system, graph, level, node, way, alarms, most, freed) {
             return false;
         }
     }
     true
 }
 
-/// Whether one less than a price is enough for what is left of who may count, with what is started.
+/// Whether one less than a price is enough for what is left of who may count, with what is started
+/// and set.
 fn is_enough(
     system: &System,
     graph: &Graph,
@@ -281,7 +306,7 @@ fn is_enough(
         None => false,
         Some(most) => {
             let freed = freed_at(system, level, node);
-            ways_fit(system, graph, level, node, ways, most, freed)
+            ways_fit(system, graph, level, node, ways, &level.alarms, most, freed)
         }
     }
 }
@@ -296,7 +321,8 @@ pub(crate) fn is_lower(system: &System, priority: u8, owner: &Owner) -> bool
     }
 }
 
-/// Whether of a task below the level no more is left than may be where a window begins.
+/// Whether of a task below the level no more is left than may be where a window begins, besides all
+/// alarms: one that it sets is among them.
 fn begins_with_enough(
     system: &System,
     graph: &Graph,
@@ -310,7 +336,13 @@ fn begins_with_enough(
     if !is_lower(system, level.priority, &node.owner) {
         return true;
     }
-    ways_fit(system, graph, level, node, ways, level.at_begin, 0)
+    let Some(set) = cost_of_alarms(system, level) else {
+        return false;
+    };
+    let Some(most) = level.at_begin.checked_sub(set) else {
+        return false;
+    };
+    ways_fit(system, graph, level, node, ways, &[], most, 0)
 }
 
 /// Whether the price of a node pays for the instruction there.

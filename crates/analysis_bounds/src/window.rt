@@ -14,6 +14,7 @@ use crate::coming::{are_enough, are_periodic, most_cost};
 use crate::counting::count_level;
 use crate::expiring::Alarms;
 use crate::level::Level;
+use crate::paying::{is_any, none_of, paying_at};
 use crate::prices::prices_pay;
 use analysis_nodes::{Graph, graphs_are_closed};
 use arrival_rules::ArrivalRule;
@@ -170,8 +171,68 @@ fn bound_of(
     }
 }
 
+/// What is known of the windows of a level that is counted.
+fn window_by(
+    system: &System,
+    mode: ModeId,
+    rules: &[ArrivalRule],
+    graph: &Graph,
+    alarms: &Alarms,
+    priority: u8,
+    level: Level,
+) -> Window
+    requires graph { IsGraph system.now graph.now }
+    requires alarms { AreKnown system.now mode graph.now alarms.now }
+    ensures { IsWindowOf system.now mode rules.now priority result }
+{
+    let Some(bound) = bound_of(system, mode, rules, graph, alarms, &level) else {
+        return Window::Unbounded(NoBound::Overload { level });
+    };
+    if level.priority != priority {
+        return Window::Unbounded(NoBound::Overload { level });
+    }
+    Window::Bounded {
+        level,
+        most: bound.most,
+        from: bound.from,
+    }
+}
+
+/// .. where some alarms pay when they are set.
+fn window_with(
+    alloc: Global,
+    system: &System,
+    mode: ModeId,
+    rules: &[ArrivalRule],
+    graph: &Graph,
+    alarms: &Alarms,
+    priority: u8,
+    paying: &[bool],
+) -> Result<Window, AllocError>
+    requires graph { IsGraph system.now graph.now }
+    requires alarms { AreKnown system.now mode graph.now alarms.now }
+    ensures { IfOk result (IsWindowOf system.now mode rules.now priority) }
+{
+    match count_level(alloc, system, mode, graph, priority, paying)? {
+        Ok(level) => Ok(window_by(system, mode, rules, graph, alarms, priority, level)),
+        Err(why) => Ok(Window::Unbounded(why)),
+    }
+}
+
+/// Whether a window is bounded, and the other one isn't shorter.
+fn is_no_longer(one: &Window, other: &Window) -> bool {
+    match one {
+        Window::Unbounded(_) => false,
+        Window::Bounded { most: few, .. } => match other {
+            Window::Unbounded(_) => true,
+            Window::Bounded { most, .. } => few <= most,
+        },
+    }
+}
+
 /// A bound of the windows of the level of a priority, whatever interrupts arrive that keep the
-/// rules; or why there is none. An error is want of memory.
+/// rules; or why there is none. Alarms pay when they are set, or for each expiry: by what is
+/// shorter. An error is want of memory.
 pub fn window_of(
     alloc: Global,
     system: &System,
@@ -185,19 +246,16 @@ pub fn window_of(
     requires alarms { AreKnown system.now mode graph.now alarms.now }
     ensures { IfOk result (IsWindowOf system.now mode rules.now priority) }
 {
-    let level = match count_level(alloc, system, mode, graph, priority)? {
-        Ok(level) => level,
-        Err(why) => return Ok(Window::Unbounded(why)),
-    };
-    let Some(bound) = bound_of(system, mode, rules, graph, alarms, &level) else {
-        return Ok(Window::Unbounded(NoBound::Overload { level }));
-    };
-    if level.priority != priority {
-        return Ok(Window::Unbounded(NoBound::Overload { level }));
+    let paying = paying_at(alloc, system, graph, priority, &alarms.once)?;
+    let when_set = window_with(alloc, system, mode, rules, graph, alarms, priority, &paying)?;
+    if !is_any(&paying) {
+        return Ok(when_set);
     }
-    Ok(Window::Bounded {
-        level,
-        most: bound.most,
-        from: bound.from,
-    })
+    let none = none_of(alloc, paying.len())?;
+    let each_time = window_with(alloc, system, mode, rules, graph, alarms, priority, &none)?;
+    if is_no_longer(&each_time, &when_set) {
+        Ok(each_time)
+    } else {
+        Ok(when_set)
+    }
 }

@@ -12,11 +12,13 @@ use Rattle.law_nodes.specs.Services.{answers, replied}
 use Rattle.law_nodes.specs.Steps.{steps_by}
 use Rattle.analysis_nodes.specs.declared.outcome.Start.{Start}
 
--- what a service starts: an activation of a task, or events of one
+-- what a service starts: an activation of a task, events of one, or an expiry of an alarm
 abbrev pub start_by : ServiceCall → Start
 start_by (Service.ActivateTask (Some t)) = Start.Activates t
 start_by (Service.ChainTask (Some t)) = Start.Activates t
 start_by (Service.SetEvent (Some t) m) = Start.Sets t m
+start_by (Service.SetRelAlarm (Some a) increment cycle) = Start.SetsAlarm a
+start_by (Service.SetAbsAlarm (Some a) start cycle) = Start.SetsAlarm a
 start_by call = Start.Nothing
 
 -- .. where it isn't refused
@@ -29,6 +31,12 @@ abbrev pub cost_of_start : Weights → Start → ℕ
 cost_of_start c Start.Nothing = 0
 cost_of_start c (Start.Activates t) = c.of_task t
 cost_of_start c (Start.Sets t m) = c.of_event t m
+cost_of_start c (Start.SetsAlarm a) = 0
+
+-- .. and by what alarms pay that are set, so much more
+abbrev pub cost_of_alarm : (ℕ → ℕ) → Start → ℕ
+cost_of_alarm cost (Start.SetsAlarm a) = cost a
+cost_of_alarm cost start = 0
 
 -- one thing that may become of it
 pub record Outcome : Type 0 where

@@ -1,7 +1,7 @@
 //! OSEK/VDX OS: specification of operating system services. What becomes of who calls a service, by
 //! each answer, and what the service starts.
 
-ghost use Rattle.std.specs.Prelude.{◌≡◌, ◌<◌, IfOk, map};
+ghost use Rattle.std.specs.Prelude.{ℕ, ◌≡◌, ◌<◌, IfOk, map};
 ghost use Rattle.osek_base.specs.declared.instr.Service.{Service};
 ghost use Rattle.osek_base.specs.declared.limits.TheConstants.{MAX_INSTRUCTIONS};
 ghost use Rattle.osek_base.specs.Lists.{without_last};
@@ -13,7 +13,9 @@ use crate::node::Node;
 use crate::outcome::Start;
 use crate::results::{Known, answered_node, results_of};
 use crate::stepping::{alone, both, copied};
-use osek_base::{MAX_INSTRUCTIONS, Owner, Register, ResId, Service, Status, System, TaskId};
+use osek_base::{
+    AlarmId, MAX_INSTRUCTIONS, Owner, Register, ResId, Service, Status, System, TaskId,
+};
 use std::alloc::{AllocError, Global};
 
 /// A job that chains a task ends.
@@ -214,6 +216,19 @@ fn events_set(task: Option<TaskId>, mask: u32) -> Start
     }
 }
 
+/// An alarm that is set, if there is one.
+fn alarm_set(alarm: Option<AlarmId>) -> Start
+    ensures relative { (increment cycle : ℕ)
+        → result ≡ start_by (Service.SetRelAlarm alarm increment cycle) }
+    ensures absolute { (start cycle : ℕ)
+        → result ≡ start_by (Service.SetAbsAlarm alarm start cycle) }
+{
+    match alarm {
+        None => Start::Nothing,
+        Some(alarm) => Start::SetsAlarm(alarm),
+    }
+}
+
 /// What a service starts.
 fn start_by(service: &Service<Register>) -> Start
     ensures { result ≡ start_by service.now }
@@ -222,6 +237,8 @@ fn start_by(service: &Service<Register>) -> Start
         Service::ActivateTask(task) => activation(task),
         Service::ChainTask(task) => activation(task),
         Service::SetEvent(task, mask) => events_set(task, mask),
+        Service::SetRelAlarm(alarm, _, _) => alarm_set(alarm),
+        Service::SetAbsAlarm(alarm, _, _) => alarm_set(alarm),
         _ => Start::Nothing,
     }
 }

@@ -1,7 +1,7 @@
 //! What may become of who executes its instruction at a node.
 
 use crate::node::Node;
-use osek_base::{Status, TaskId};
+use osek_base::{AlarmId, Status, TaskId};
 
 /// What a service starts that isn't refused.
 #[derive(Clone, Copy)]
@@ -11,6 +11,8 @@ pub enum Start {
     Activates(TaskId),
     /// The events of the mask are set for the task.
     Sets(TaskId, u32),
+    /// The alarm is set, and is to expire.
+    SetsAlarm(AlarmId),
 }
 
 /// One thing that may become of it.

@@ -12,6 +12,12 @@ returns-in-Some c h counts =
       omega (arith, least, left),
       subst
           (λ freed. AreFitting c.args.system.now c.args.graph.now c.args.level.now
-          (node_by c.args.node.now) c.args.ways.now c.in-Some.most freed (length c.args.ways.now))
-          c.freed_at-freed.ensures (c.ways_fit.ensures h),
+          (node_by c.args.node.now) c.args.ways.now c.args.level.now.alarms.items c.in-Some.most
+          freed (length c.args.ways.now))
+          c.freed_at-freed.ensures
+          (subst
+          (λ alarms. AreFitting c.args.system.now c.args.graph.now c.args.level.now
+          (node_by c.args.node.now) c.args.ways.now alarms c.in-Some.most c.freed_at-freed.result
+          (length c.args.ways.now))
+          c.deref.ensures.value (c.ways_fit.ensures h)),
     )

@@ -12,10 +12,10 @@ loop-place-preserved c =
     let n = node_by c.args.node.now in
     below_more
     (λ k. (w : Way) → slice_get c.args.ways.now k ≡ Some w
-    → Fits S c.args.graph.now c.args.level.now n w c.args.most c.args.freed)
+    → Fits S c.args.graph.now c.args.level.now n w c.args.alarms.now c.args.most c.args.freed)
     c.loop-place.place c.loop-place.invariant
     (λ w there.
-    subst (λ v. Fits S c.args.graph.now c.args.level.now n v c.args.most c.args.freed)
+    subst (λ v. Fits S c.args.graph.now c.args.level.now n v c.args.alarms.now c.args.most c.args.freed)
     (c.index-ways-place.is
     ∙ got c.args.ways.now c.loop-place.place c.index-ways-place.result w c.loop-place-test.true
     there)
@@ -26,5 +26,5 @@ returns c h =
     up_to
     (λ k. (w : Way) → slice_get c.args.ways.now k ≡ Some w
     → Fits c.args.system.now c.args.graph.now c.args.level.now (node_by c.args.node.now) w
-    c.args.most c.args.freed)
+    c.args.alarms.now c.args.most c.args.freed)
     c.loop-place.place (length c.args.ways.now) c.loop-place.invariant c.loop-place-test.false
