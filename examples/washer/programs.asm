@@ -15,6 +15,7 @@ end:    JMP end
         STR Tank, r4, r5
         RELR Tank
         CHAIN Gauge
+        TERM                    ; where the chain is refused
 end:    JMP end
 
 .task Gauge

@@ -1,8 +1,9 @@
-//! Hints: OIL of other kernels, which `import` reads.
+//! Hints: OIL of other kernels, which `import` reads, some of it with another meaning.
 
 use crate::notes::{nearest, write_names};
 use crate::source::Source;
 use crate::unseen::is_utf8_mark;
+use oil_reader::{AttributeName, Kind, Value};
 use std::alloc::Global;
 use std::io::{self, Write};
 
@@ -13,6 +14,25 @@ fn write_hint<W: Write>(source: Source<'_>, out: &mut W) -> io::Result<()> {
         " hint: osek import {} prints OIL of other kernels as it is read here",
         source.name
     )
+}
+
+/// Writes that `import --bend` takes something with another meaning. An error is a failed write.
+pub(crate) fn write_bend_hint<W: Write>(source: Source<'_>, out: &mut W) -> io::Result<()> {
+    writeln!(
+        out,
+        " hint: osek import --bend {} takes it with another meaning",
+        source.name
+    )
+}
+
+/// Whether an attribute is one that routines have elsewhere: the resources that they get.
+pub(crate) fn is_bent_attribute(kind: Kind, word: &str) -> bool {
+    kind == Kind::Isr && word == AttributeName::TaskResource.word()
+}
+
+/// Whether a value is a category of routines that there is elsewhere.
+pub(crate) fn is_bent_value(attribute: Option<AttributeName>, value: Value<'_>) -> bool {
+    attribute == Some(AttributeName::Category) && matches!(value, Value::Number(1 | 3))
 }
 
 /// Whether the last byte of a text is a digit.

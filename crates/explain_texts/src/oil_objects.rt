@@ -1,7 +1,7 @@
 //! Faults of the attributes and objects of an OIL file.
 
 use crate::allowed_values::allowed_values;
-use crate::hints::write_nearest_or_hint;
+use crate::hints::{is_bent_attribute, is_bent_value, write_bend_hint, write_nearest_or_hint};
 use crate::notes::{write_choice, write_names};
 use crate::pieces::Piece::{self, Named, Text};
 use crate::pieces::kind_word;
@@ -70,6 +70,9 @@ pub(crate) fn explain_unknown<W: Write>(
         return write_choice(alloc, word, &words, out);
     }
     write_names("allowed", &words, out)?;
+    if is_bent_attribute(scope.kind(), word) {
+        return write_bend_hint(source, out);
+    }
     write_nearest_or_hint(alloc, source, word, &words, out)
 }
 
@@ -226,7 +229,8 @@ fn explain_value<'a, W: Write>(
     out: &mut W,
 ) -> io::Result<()> {
     let word = setting.name.text;
-    let allowed = match attribute_named(scope.allowed, word) {
+    let attribute = attribute_named(scope.allowed, word);
+    let allowed = match attribute {
         Some(attribute) => allowed_values(attribute),
         None => "",
     };
@@ -243,7 +247,11 @@ fn explain_value<'a, W: Write>(
         Text(" can't be "),
         wrong,
     ];
-    source.note(place, &what, "allowed", &[Text(allowed)], out)
+    source.note(place, &what, "allowed", &[Text(allowed)], out)?;
+    if is_bent_value(attribute, setting.value) {
+        return write_bend_hint(source, out);
+    }
+    Ok(())
 }
 
 /// Explains a value that its attribute doesn't take, or a reserved name.

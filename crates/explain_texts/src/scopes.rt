@@ -1,7 +1,9 @@
 //! Where settings stand together in an OIL file.
 
 use crate::pieces::Piece;
-use oil_reader::{Attribute, AttributeName, Object, Setting, SyntaxTree, Value, attributes_of};
+use oil_reader::{
+    Attribute, AttributeName, Kind, Object, Setting, SyntaxTree, Value, attributes_of,
+};
 
 /// Settings that stand together: those of an object, or those of the block behind the value of one
 /// of its attributes.
@@ -49,6 +51,11 @@ impl<'t, 'a> Scope<'t, 'a> {
             attribute: Some(attribute),
             allowed: name.block(setting.value),
         })
+    }
+
+    /// The kind of its object.
+    pub(crate) fn kind(self) -> Kind {
+        self.object.kind
     }
 
     /// Whether it is a block.

@@ -1,7 +1,7 @@
 //! What is wrong in a body, step by step: what its caller may not do, and resources that aren't got
 //! and released in pairs.
 
-use crate::description::{Body, Does, LIMITED_WAIT, Step};
+use crate::description::{Body, Does, LIMITED_WAIT};
 use crate::fault::{Fault, Wrong, tell};
 use crate::names::is_among;
 use crate::work::Work;
@@ -149,7 +149,7 @@ pub fn tell_task<'a>(
         if has_chained {
             tell(faults, place, Wrong::BehindChain)?;
         }
-        has_chained = is_chain(step);
+        has_chained = step.does.is_chain();
         if let Some(wrong) = holding.step(step.does)? {
             tell(faults, place, wrong)?;
         }
@@ -157,13 +157,6 @@ pub fn tell_task<'a>(
     tell_end(body, &holding, faults)?;
     tell_suspended(body, faults)?;
     tell_length(body, faults)
-}
-
-fn is_chain(step: &Step<'_>) -> bool {
-    match step.does {
-        Does::Chain(_) => true,
-        _ => false,
-    }
 }
 
 /// How many instructions a step is.

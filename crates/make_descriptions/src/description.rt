@@ -41,6 +41,11 @@ impl Does<'_> {
             }
         )
     }
+
+    /// Whether it ends the job, so that no step behind it is reached.
+    pub fn is_chain(self) -> bool {
+        matches!(self, Does::Chain(_))
+    }
 }
 
 /// A step, and the place of its value.

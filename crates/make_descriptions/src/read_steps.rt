@@ -269,7 +269,16 @@ fn steps_of<'a>(
     Ok(steps)
 }
 
-/// The steps of the list at the key `body`; none where there is no such key.
+/// Whether the last step ends the job.
+fn end_in_chain(steps: &[Step<'_>]) -> bool {
+    match steps.last() {
+        Some(last) => last.does.is_chain(),
+        None => false,
+    }
+}
+
+/// The steps of the list at the key `body`; none where there is no such key. A loop that comes to a
+/// chain isn't repeated: the job ends there, even where the chain is refused.
 pub fn body<'a>(
     alloc: Global,
     table: &Table<'a>,
@@ -277,11 +286,14 @@ pub fn body<'a>(
 ) -> Result<Body<'a>, AllocError> {
     let is_looped = table.is_true("loop", faults)?;
     match table.list("body", faults)? {
-        Some(list) => Ok(Body {
-            place: list.node.place,
-            steps: steps_of(alloc, table.nodes, list, faults)?,
-            is_looped,
-        }),
+        Some(list) => {
+            let steps = steps_of(alloc, table.nodes, list, faults)?;
+            Ok(Body {
+                place: list.node.place,
+                is_looped: is_looped && !end_in_chain(steps.as_slice()),
+                steps,
+            })
+        }
         None => Ok(Body {
             place: table.place,
             steps: Vec::new(alloc),
