@@ -3,12 +3,13 @@
 
 ghost use Rattle.osek_base.specs.Separable.{Separable};
 
+use analysis_bounds::{UpperAnalysis, analyse_upper};
 use cli_answers::{StoredRun, Texts, Verdict, system_of, write_denial};
 use cli_report::write_report;
 use cli_requests::Rules;
 use cli_tables::{
-    BoundsAsked, SearchWatch, all_rules, arriving_fault, mode_id, unknown_figure, write_analysed,
-    write_found,
+    BoundsAsked, SearchWatch, all_rules, arriving_fault, count, counted_of, mode_id,
+    unknown_figure, write_analysed, write_found,
 };
 use osek_base::System;
 use partition_check::upper_only;
@@ -68,8 +69,13 @@ fn write_upper<'v, O: Write, E: Write>(
     let mode = mode_id(alloc, texts, system, asked.line.mode)?;
     let arriving = all_rules(alloc, system, asked.said)?;
     if asked.line.is_analysed {
-        let part = upper_only(alloc, system, priority)?;
-        return write_analysed(alloc, &part, mode, &arriving, asked, out);
+        return match analyse_upper(alloc, system, priority, mode, &arriving)? {
+            Ok(UpperAnalysis { part, analysis }) => {
+                let told = counted_of(alloc, &part, &arriving, Ok(analysis))?;
+                write_analysed(alloc, &part, told.as_ref(), asked, out)
+            }
+            Err(_) => write_analysed(alloc, system, None, asked, out),
+        };
     }
     let extent = extent_of(rules);
     let found = find_upper_bounds(alloc, system, priority, mode, &arriving, extent, watch)?;
@@ -94,7 +100,8 @@ fn write_whole<'v, O: Write, E: Write>(
     let mode = mode_id(alloc, texts, system, asked.line.mode)?;
     let arriving = all_rules(alloc, system, asked.said)?;
     if asked.line.is_analysed {
-        return write_analysed(alloc, system, mode, &arriving, asked, out);
+        let told = count(alloc, system, mode, &arriving)?;
+        return write_analysed(alloc, system, told.as_ref(), asked, out);
     }
     let extent = extent_of(rules);
     let found = find_bounds(alloc, system, mode, &arriving, extent, watch)?;

@@ -48,13 +48,36 @@ fn begins_with_run(level: &Level, from: Option<u32>) -> bool {
     }
 }
 
-/// Writes what may be left where a window begins.
-fn write_left<W: Write>(level: &Level, from: Option<u32>, out: &mut W) -> io::Result<()> {
-    if begins_with_run(level, from) {
-        write!(out, "{} with the run", level.at_boot)
-    } else {
-        write!(out, "{} to begin with", level.at_begin)
+/// Writes what each alarm costs that pays when it is set, and may be set where a window begins.
+fn write_set_alarms<W: Write>(system: &System, level: &Level, out: &mut W) -> io::Result<()> {
+    let names = system.names();
+    for (number, cost) in level.alarms.iter().enumerate() {
+        if *cost > 0 {
+            let name = name_at(names.alarms.as_slice(), number);
+            write!(out, ", {name} {cost} if set")?;
+        }
     }
+    Ok(())
+}
+
+/// Writes what may be left where a window begins, and apart from the rest what alarms cost that are
+/// set there.
+fn write_left<W: Write>(
+    system: &System,
+    level: &Level,
+    from: Option<u32>,
+    out: &mut W,
+) -> io::Result<()> {
+    let mut set: u64 = 0;
+    for cost in &level.alarms {
+        set = set.saturating_add(*cost);
+    }
+    if begins_with_run(level, from) {
+        write!(out, "{} with the run", level.at_boot.saturating_sub(set))?;
+    } else {
+        write!(out, "{} to begin with", level.at_begin.saturating_sub(set))?;
+    }
+    write_set_alarms(system, level, out)
 }
 
 /// Writes what each interrupt and each expiry costs, where it costs anything.
@@ -85,7 +108,7 @@ fn write_sum<W: Write>(
     from: Option<u32>,
     out: &mut W,
 ) -> io::Result<()> {
-    write_left(level, from, out)?;
+    write_left(system, level, from, out)?;
     let names = system.names();
     for number in 0..system.routine_count() {
         let (times, cost) = routine_share(rules, level, number, most);
@@ -142,7 +165,7 @@ fn write_reason<W: Write>(
         }
         NoBound::Overload { level } => {
             out.write_all(b"more comes than there are ticks: ")?;
-            write_left(level, None, out)?;
+            write_left(system, level, None, out)?;
             write_costs(system, level, out)
         }
     }

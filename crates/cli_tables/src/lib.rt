@@ -35,7 +35,7 @@ mod told;
 mod witnessing;
 mod writing;
 
-pub use analysed::write_analysed;
+pub use analysed::{Counted, count, counted_of, verdict_of_count, write_analysed, write_count};
 pub use arriving::{all_rules, arriving_fault, said_of};
 pub use asked::{BoundsAsked, mode_id, unknown_figure};
 pub use broken::broken_bounds;
