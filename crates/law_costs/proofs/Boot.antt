@@ -17,6 +17,7 @@ use Rattle.law_runs.proofs.Lists.{all_any, clash}
 use Rattle.law_runs.proofs.RankedMoves.{made_job}
 use Rattle.law_runs.proofs.Single.{IsSingle}
 use Rattle.law_runs.proofs.SingleTick.{begun, begun_single, first_single, started_keep}
+use Rattle.law_windows.specs.Work.{goes_at, is_pending_at}
 use Rattle.law_windows.proofs.Losses.{all_pending, none_on}
 use Rattle.law_costs.specs.Left.{Weights, counts, left, left_of_active, left_of_job, left_of_jobs, left_of_pending, of_all_alarms, on, switch_of}
 use Rattle.law_costs.specs.Known.{Known}
@@ -25,6 +26,8 @@ use Rattle.law_costs.proofs.Alarms.{no_more}
 use Rattle.law_costs.proofs.Dispatch.{high_parts, is_high, reschedule_less}
 use Rattle.law_costs.proofs.Events.{IsAlike, alike_left, set_other, set_zero}
 use Rattle.law_costs.proofs.Switches.{all_on}
+use Rattle.law_costs.proofs.Totals.{none_any}
+use Rattle.law_costs.proofs.Work.{none_left}
 
 pub boot_state : (S : System) (mode : ℕ) (arrivals : List Arrival)
     → (run S mode arrivals 0).state ≡ (boot S mode).state
@@ -84,21 +87,16 @@ begun_clear S proper mode t = zeros (length S.tasks) t
     zeros (suc n) zero = refl
     zeros (suc n) (suc u) = zeros n u
 
-none_pending : (S : System) (c : Weights) (s : State)
-    → s.pending ≡ replicate (length S.routines) false → left_of_pending S c s ≡ 0
-none_pending S c s is = none (below (length S.routines))
+none_pending : (S : System) (p : ℕ) (c : Weights) (s : State)
+    → s.pending ≡ replicate (length S.routines) false → left_of_pending S p c s ≡ 0
+none_pending S p c s is =
+    none_left S p c s
+    (none_any (is_pending_at S p s) (below (length S.routines))
+    (all_any (λ i. is_pending_at S p s i ≡ false) (below (length S.routines))
+    (λ i. ap (λ b. b && goes_at S p i) (off i))))
   where
     off : (i : ℕ) → is_pending s i ≡ false
     off i = ap (λ flags. slice_index_or flags i false) is ∙ none_on (length S.routines) i
-
-    none : (xs : List ℕ) → sum_by c.costs.of_arrival (filter (is_pending s) xs) ≡ 0
-    none [] = refl
-    none (x ∷ xs) =
-        ap
-        (λ b. sum_by c.costs.of_arrival
-        (cond b (x ∷ filter (is_pending s) xs) (filter (is_pending s) xs)))
-        (off x)
-        ∙ none xs
 
 module _ (S : System) (p : ℕ) (c : Weights) (known : Known)
     (starts : PayForStarts S p c known) where
@@ -161,7 +159,7 @@ module _ (S : System) (p : ℕ) (c : Weights) (known : Known)
       ap (left_of_active c (switch_of started))
       (all_active S (starting_tasks S mode) (begun S proper mode)) in
       let pending =
-      none_pending S c started (all_pending S (starting_tasks S mode) (begun S proper mode)) in
+      none_pending S p c started (all_pending S (starting_tasks S mode) (begun S proper mode)) in
       let is : switch_of started ≡ on =
       all_switch S (starting_tasks S mode) (begun S proper mode) in
       let jobs =

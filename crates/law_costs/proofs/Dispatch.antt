@@ -50,7 +50,7 @@ module _ (S : System) (p : ℕ) (c : Weights) where
       let both = and_parts (not (waits j)) (nat_le p (dynamic_priority S j)) is in
       (not-true (waits j) both.0, leb-true p (dynamic_priority S j) both.1)
 
-  not_high : (j : Job) → (waits j ≡ false → dynamic_priority S j < p) → is_high j ≡ false
+  pub not_high : (j : Job) → (waits j ≡ false → dynamic_priority S j < p) → is_high j ≡ false
   not_high j low = go (is_high j) refl
     where
       go : (b : Bool) → is_high j ≡ b → b ≡ false

@@ -19,11 +19,12 @@ use Rattle.law_runs.proofs.RunSteps.{going_before, state_more}
 use Rattle.law_blockers.proofs.StepLemmas.{executing_is}
 use Rattle.law_future.proofs.Arrivals.{in_filter}
 use Rattle.law_alarms.specs.Expiries.{expires}
-use Rattle.law_windows.specs.Work.{has_work_after, is_busy}
+use Rattle.law_windows.specs.Work.{has_work, has_work_after, is_busy}
 use Rattle.law_windows.specs.Coming.{coming, first_cost}
 use Rattle.law_windows.proofs.Before.{or_true}
 use Rattle.law_windows.proofs.Expiring.{gaps_bound_responses}
 use Rattle.law_windows.proofs.Phases.{phases_make_a_potential}
+use Rattle.law_windows.proofs.Steady.{work_stays}
 use Rattle.law_costs.specs.Left.{Weights, left}
 use Rattle.law_costs.specs.Known.{Known, StaysKnown, at_instruction}
 use Rattle.law_costs.specs.Laws.{CostsBoundResponses, CostsFallByPhases, Pay}
@@ -78,9 +79,9 @@ module _ (S : System) (mode : ℕ) (arrivals : List Arrival) (p : ℕ) (c : Weig
       ∙ and_from (is_in a (below (length S.alarms))) (is_due S (here n) a) among due))
       (each_in (below (length S.alarms))))
 
-  before : (n : ℕ) → (here n).over ≡ false
+  before : (n : ℕ) → (here n).over ≡ false → is_busy S mode arrivals p n ≡ true
       → left S p c (at n) ≤ left S p c (here n) + coming S mode arrivals c.costs n
-  before n going =
+  before n going busy =
       let adds =
       before_adds S p c known proper stays pay.starts pay.coming pay.dispatch
       (arriving arrivals n) (here n) (good n)
@@ -91,6 +92,7 @@ module _ (S : System) (mode : ℕ) (arrivals : List Arrival) (p : ℕ) (c : Weig
         unmet = run_unmet S proper mode arrivals n going;
       })
       (once_in_runs S mode arrivals known proper stays c pay.once n going)
+      (ap (has_work S p) (executing_is S mode arrivals n going) ∙ busy)
       in
       let same = ap (left S p c) (executing_is S mode arrivals n going) in
       let due = due_cost n going in
@@ -100,8 +102,7 @@ module _ (S : System) (mode : ℕ) (arrivals : List Arrival) (p : ℕ) (c : Weig
   after n later =
       let going = going_before S mode arrivals n later in
       let less =
-      behind_less S p c known proper stays pay.starts pay.coming pay.dispatch
-      (arriving arrivals n) (here n) (good n) in
+      behind_less S p c pay.dispatch proper (arriving arrivals n) (here n) (good n) in
       let next = ap (left S p c) (state_more S mode arrivals n going) in
       let same =
       ap (λ (s : State). left S p c (execute_phase S s).state)
@@ -121,9 +122,10 @@ module _ (S : System) (mode : ℕ) (arrivals : List Arrival) (p : ℕ) (c : Weig
     unbusy (suc n) going none = pays.ended n going none
 
     woken : (n : ℕ) → (here n).over ≡ false → has_work_after S mode arrivals p n ≡ false
+        → is_busy S mode arrivals p n ≡ true
         → left S p c (at n) ≤ first_cost c.costs n + coming S mode arrivals c.costs n
-    woken n going none =
-        let adds = before n going in
+    woken n going none busy =
+        let adds = before n going busy in
         let low = unbusy n going none in
         omega (arith, adds, low)
 
@@ -150,8 +152,10 @@ costs_fall_by_phases S mode arrivals p c known proper stays pay = record {
       (run_form S proper mode arrivals n) (run_known S known proper stays mode arrivals n going)
       stands;
   boot = λ stands. boots S mode arrivals p c known proper stays pay;
-  before = λ n going stands. before S mode arrivals p c known proper stays pay n going;
-  woken = λ n going none busy. woken S mode arrivals p c known proper stays pay pays n going none;
+  before = λ n going stands.
+      before S mode arrivals p c known proper stays pay n going
+      (work_stays S mode arrivals p n proper going stands);
+  woken = woken S mode arrivals p c known proper stays pay pays;
   behind = falls S mode arrivals p c known proper stays pay pays;
   begun = begins S mode arrivals p c known proper stays pay pays;
 }
@@ -167,7 +171,7 @@ costs_fall_by_phases S mode arrivals p c known proper stays pay = record {
           jobs = (at_known S known proper stays mode arrivals n going).jobs;
           unmet = at_unmet S proper mode arrivals n going;
         }))
-        (known_routines_pay S known proper stays mode arrivals c pay.routines)
+        (known_routines_pay S known proper stays mode arrivals p c pay.routines)
         (known_jobs_pay S known proper stays mode arrivals p c pay.jobs)
 
 pub costs_bound_responses : CostsBoundResponses

@@ -9,7 +9,7 @@ use Rattle.osek_base.specs.Trace.{run}
 use Rattle.law_windows.specs.Work.{has_work_after, is_busy}
 use Rattle.law_costs.specs.Left.{Weights, left}
 use Rattle.law_costs.specs.Known.{at_instruction}
-use Rattle.law_costs.specs.Routines.{TakesIn}
+use Rattle.law_costs.specs.Routines.{RoutinePaysIn}
 use Rattle.law_costs.specs.Jobs.{PaysIn}
 use Rattle.law_costs.proofs.Starts.{StartsPay}
 
@@ -30,11 +30,11 @@ PayForRunJobs S mode arrivals p c =
     → executor (at_instruction S mode arrivals n) ≡ JobCalls j
     → PaysIn S p c (at_instruction S mode arrivals n) j
 
-abbrev pub PayForRunRoutines : System → ℕ → List Arrival → Weights → Type 0
-PayForRunRoutines S mode arrivals c =
+abbrev pub PayForRunRoutines : System → ℕ → List Arrival → ℕ → Weights → Type 0
+PayForRunRoutines S mode arrivals p c =
     (n : ℕ) (a : Active) → (run S mode arrivals (suc n)).state.over ≡ false
     → executor (at_instruction S mode arrivals n) ≡ RoutineCalls a
-    → TakesIn S c (at_instruction S mode arrivals n) a
+    → RoutinePaysIn S p c (at_instruction S mode arrivals n) a
 
 -- for each instruction
 pub record PayForInstructions (S : System) (mode : ℕ) (arrivals : List Arrival) (p : ℕ)
@@ -49,7 +49,8 @@ pub record PayForInstructions (S : System) (mode : ℕ) (arrivals : List Arrival
   pub begun : (n : ℕ) → (run S mode arrivals (suc n)).state.over ≡ false
       → is_busy S mode arrivals p n ≡ false → has_work_after S mode arrivals p (suc n) ≡ true
       → left S p c (behind_instruction S mode arrivals n) ≤ c.costs.at_begin
-  -- and so much is left behind any tick behind which no work stands: a section of a lower job
+  -- and so much is left behind any tick behind which no work stands: a section of a lower job, or
+  -- a lower routine
   pub ended : (n : ℕ) → (run S mode arrivals (suc n)).state.over ≡ false
       → has_work_after S mode arrivals p (suc n) ≡ false
       → left S p c (run S mode arrivals (suc n)).state ≤ c.costs.at_begin

@@ -1,6 +1,6 @@
 -- An instruction of a job takes one, or leaves no more than may be where a window begins.
 use Rattle.std.proofs.Common.{ℕ, ◌≡◌, ◌<◌, ◌≤◌, ◌+◌, Bool, true, false, cond, not, ◌&&◌, refl, sym, ◌∙◌, ap, subst, arith}
-use Rattle.std.specs.Prelude.{Option, Some, None, is_some, slice_index, slice_index_or}
+use Rattle.std.specs.Prelude.{Option, Some, None, is_some, slice_index}
 use Rattle.std.specs.List.{list_any, sum_by}
 use Rattle.osek_base.specs.declared.ids.Owner.{Owner}
 use Rattle.osek_base.specs.declared.instr.Control.{Control}
@@ -11,7 +11,6 @@ use Rattle.osek_base.specs.Service.{Caller, JobCalls, service}
 use Rattle.osek_base.specs.State.{Job, JobId, State, job_of, same_id}
 use Rattle.osek_base.specs.System.{System, instruction_at, priority_of}
 use Rattle.osek_base.specs.Tick.{executed}
-use Rattle.law_future.specs.Shown.{chosen_of}
 use Rattle.law_runs.proofs.Foremost.{same_ids, same_self}
 use Rattle.law_runs.proofs.Known.{IsRunningCaller}
 use Rattle.law_runs.proofs.Lists.{all_any, any_none, found, pairs_weaker}
@@ -27,6 +26,7 @@ use Rattle.law_costs.proofs.SetAlarms.{instruction_sets}
 use Rattle.law_costs.proofs.Starts.{StartsPay}
 use Rattle.law_costs.proofs.Switches.{idle_on}
 use Rattle.law_costs.proofs.Totals.{found_counts}
+use Rattle.law_costs.proofs.Work.{left_same}
 
 -- ---- what an instruction leaves alone
 
@@ -189,10 +189,8 @@ module _ (S : System) (p : ℕ) (c : Weights) (s : State) (starts : StartsPay S 
   unactive : (r : State) → r.active ≡ None → left_of_active c (switch_of r) r.active ≡ 0
   unactive r is = ap (left_of_active c (switch_of r)) is
 
-  same_pending : left_of_pending S c e ≡ left_of_pending S c s
-  same_pending =
-      ap (λ flags. sum_by c.costs.of_arrival (chosen_of S (λ i. slice_index_or flags i false)))
-      (behind_pending S s j)
+  same_pending : left_of_pending S p c e ≡ left_of_pending S p c s
+  same_pending = left_same S p c s e (behind_pending S s j)
 
   -- of the jobs behind it
   jobs_behind : (list_any (counted e) e.jobs ≡ false → is_off (switch_of s) ≡ true)
@@ -241,7 +239,7 @@ module _ (S : System) (p : ℕ) (c : Weights) (s : State) (starts : StartsPay S 
       cost w = c.of_job (slice_index s.masks j.id.task) w j
 
   -- where its task is below the level and nothing else is left, no more than may be at a beginning
-  pub job_begins : priority_of S j.id.task < p → left_of_pending S c s ≡ 0
+  pub job_begins : priority_of S j.id.task < p → left_of_pending S p c s ≡ 0
       → left_of_others S p c s.masks j.id s.jobs ≡ 0
       → (list_any (counted e) e.jobs ≡ false → is_off (switch_of s) ≡ true)
       → left S p c e ≤ c.costs.at_begin

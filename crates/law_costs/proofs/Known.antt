@@ -133,9 +133,9 @@ module _ (S : System) (known : Known) (proper : IsProper S) (stays : StaysKnown 
         pays (at_instruction S mode arrivals n) j (at_executes n later (JobCalls j) is)
         (at_job n (going n later) j is)
 
-    pub known_routines_pay : (c : Weights) → PayForRoutines S c known
-        → PayForRunRoutines S mode arrivals c
-    known_routines_pay c pays n a later is =
+    pub known_routines_pay : (p : ℕ) (c : Weights) → PayForRoutines S p c known
+        → PayForRunRoutines S mode arrivals p c
+    known_routines_pay p c pays n a later is =
         pays (at_instruction S mode arrivals n) a (at_executes n later (RoutineCalls a) is)
         (at_routine n (going n later) a is)
 

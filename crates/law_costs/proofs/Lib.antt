@@ -4,6 +4,7 @@ pub mod Switches
 pub mod Alarms
 pub mod SetAlarms
 pub mod Dispatch
+pub mod Levels
 pub mod Events
 pub mod Flags
 pub mod Starts

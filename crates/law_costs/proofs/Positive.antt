@@ -1,21 +1,21 @@
 -- Where work stands, something is left.
-use Rattle.std.proofs.Common.{ℕ, zero, suc, ◌≡◌, ◌<◌, ◌≤◌, ◌⊎◌, inl, inr, Bool, true, false, cond, not, ◌&&◌, ◌||◌, nat_le, List, [], ◌∷◌, length, refl, sym, ◌∙◌, ap, subst, arith}
-use Rattle.std.specs.Prelude.{IfSome, Option, Some, None, is_some, ◌==◌, slice_index, slice_index_or}
+use Rattle.std.proofs.Common.{ℕ, ◌≡◌, ◌<◌, ◌≤◌, Bool, true, false, cond, not, ◌&&◌, ◌||◌, nat_le, List, [], ◌∷◌, length, refl, sym, ◌∙◌, ap, subst, arith}
+use Rattle.std.specs.Prelude.{IfSome, Option, Some, None, is_some, ◌==◌, slice_index}
 use Rattle.std.specs.List.{AllByRecursion, filter, list_any, sum_by}
-use Rattle.std.proofs.lemmas.Bool.{and_parts, cases_lt, eq-eqb, le-leb, leb-true}
-use Rattle.std.proofs.lemmas.List.Folds.{list_any-append}
+use Rattle.std.proofs.lemmas.Bool.{and_from, and_parts, le-leb, leb-true}
 use Rattle.std.proofs.lemmas.List.Sums.{sum_by-cons}
 use Rattle.osek_base.specs.Lists.{below, is_in}
 use Rattle.osek_base.specs.Priority.{dynamic_priority, static_priority}
 use Rattle.osek_base.specs.State.{Active, Job, State, waits}
 use Rattle.osek_base.specs.System.{System}
 use Rattle.osek_base.specs.Tick.{is_pending}
-use Rattle.law_runs.proofs.Foremost.{equal, static_le}
+use Rattle.law_runs.proofs.Foremost.{equal, self_equal, static_le}
 use Rattle.law_runs.proofs.Formed.{HasForm}
 use Rattle.law_runs.proofs.Lists.{all_weaker, clash}
 use Rattle.law_windows.specs.Routines.{begun}
-use Rattle.law_windows.specs.Work.{has_work, is_work}
+use Rattle.law_windows.specs.Work.{goes_at, has_work, is_active_at, is_pending_at, is_work, some_pending}
 use Rattle.law_windows.proofs.Before.{or_true}
+use Rattle.law_windows.proofs.Working.{any_below, some_pends}
 use Rattle.law_costs.specs.Left.{Weights, counts, is_off, left, left_of_active, on, switch_for, switch_of}
 use Rattle.law_costs.specs.Known.{IsKnownJob, IsKnownRoutine, Known, StaysKnown}
 use Rattle.law_costs.specs.Paying.{CostSomething, PayForComing}
@@ -45,16 +45,7 @@ some_part q f d (x ∷ xs) dear some = go (q x) refl some (some_part q f d xs de
         omega (arith, whole, others)
 
 pub in_below : (n i : ℕ) → i < n → is_in i (below n) ≡ true
-in_below zero i low = absurd (omega (arith, low))
-in_below (suc n) i low =
-    list_any-append (λ m. m == i) (below n) (n ∷ []) ∙ go (cases_lt i n) (in_below n i)
-  where
-    go : (i < n) ⊎ (n ≤ i) → (i < n → is_in i (below n) ≡ true)
-        → (is_in i (below n) || ((n == i) || false)) ≡ true
-    go (inl less) before = ap (λ b. b || ((n == i) || false)) (before less)
-    go (inr most) before =
-        ap (λ b. is_in i (below n) || (b || false)) (eq-eqb n i (omega (arith, low, most)))
-        ∙ or_true (is_in i (below n))
+in_below n i low = any_below (λ m. m == i) n i low (self_equal i)
 
 some_chosen : (f : ℕ → ℕ) (test : ℕ → Bool) (i : ℕ) (xs : List ℕ) → is_in i xs ≡ true
     → test i ≡ true → 1 ≤ f i → 1 ≤ sum_by f (filter test xs)
@@ -80,20 +71,6 @@ some_chosen f test i (x ∷ xs) among is dear =
         (sym (ap test same ∙ is)) (omega (arith, whole, cost, dear))
     go false here among rest = more (test x) (rest among)
 
--- some flag is raised
-pub record IsRaised (flags : List Bool) : Type 0 where
-  pub place : ℕ
-  pub inside : place < length flags
-  pub raised : slice_index_or flags place false ≡ true
-
-pub some_raised : (flags : List Bool) → list_any (λ flag. flag) flags ≡ true → IsRaised flags
-some_raised [] some = clash (sym some)
-some_raised (true ∷ flags) some = record { place = 0; inside = omega arith; raised = refl }
-some_raised (false ∷ flags) some =
-    let later = some_raised flags some in
-    let inside = later.inside in
-    record { place = suc later.place; inside = omega (arith, inside); raised = later.raised }
-
 -- ---- a state
 
 module _ (S : System) (p : ℕ) (s : State) where
@@ -109,7 +86,7 @@ module _ (S : System) (p : ℕ) (s : State) where
       ∙ or_true (is_off (switch_for s j))
 
 module _ (S : System) (p : ℕ) (c : Weights) (known : Known) (stays : StaysKnown S known)
-    (something : CostSomething S p c known) (coming : PayForComing S c) (s : State)
+    (something : CostSomething S p c known) (coming : PayForComing S p c) (s : State)
     (form : HasForm S s) (here : HasKnown S known s) where
   active_left : (a : Active) → s.active ≡ Some a → 1 ≤ left S p c s
   active_left a is =
@@ -120,16 +97,18 @@ module _ (S : System) (p : ℕ) (c : Weights) (known : Known) (stays : StaysKnow
       (subst (λ o. IfSome o (IsKnownRoutine known (switch_of s))) is here.active) in
       omega (arith, whole, cost)
 
-  pending_left : list_any (λ flag. flag) s.pending ≡ true → 1 ≤ left S p c s
+  pending_left : some_pending S p s ≡ true → 1 ≤ left S p c s
   pending_left some =
-      let found = some_raised s.pending some in
-      let inside : found.place < length S.routines =
-      subst (λ n. found.place < n) form.pending found.inside in
-      let pay = coming.routine found.place inside in
-      let cost = something.active on (begun found.place) (stays.started found.place inside) in
+      let found = some_pends S p s some in
+      let inside = found.is.known in
+      let pay = coming.routine found.which inside found.is.goes in
+      let cost = something.active on (begun found.which) (stays.started found.which inside) in
       let whole =
-      some_chosen c.costs.of_arrival (is_pending s) found.place (below (length S.routines))
-      (in_below (length S.routines) found.place inside) found.raised (omega (arith, pay, cost)) in
+      some_chosen c.costs.of_arrival (is_pending_at S p s) found.which (below (length S.routines))
+      (in_below (length S.routines) found.which inside)
+      (and_from (is_pending s found.which) (goes_at S p found.which) found.is.pends
+      found.is.goes)
+      (omega (arith, pay, cost)) in
       omega (arith, whole)
 
   abbrev cost_of : Job → ℕ
@@ -159,11 +138,11 @@ module _ (S : System) (p : ℕ) (c : Weights) (known : Known) (stays : StaysKnow
 
   pub something_left : has_work S p s ≡ true → 1 ≤ left S p c s
   something_left some =
-      go s.active refl (list_any (λ flag. flag) s.pending) refl some
+      go s.active refl (some_pending S p s) refl some
     where
-      go : (o : Option Active) → s.active ≡ o → (b : Bool)
-          → list_any (λ flag. flag) s.pending ≡ b
-          → (is_some o || (b || list_any (is_work S p) s.jobs)) ≡ true → 1 ≤ left S p c s
+      go : (o : Option Active) → s.active ≡ o → (b : Bool) → some_pending S p s ≡ b
+          → (is_active_at S p o || (b || list_any (is_work S p) s.jobs)) ≡ true
+          → 1 ≤ left S p c s
       go (Some a) is b pends some = active_left a is
       go None is true pends some = pending_left pends
       go None is false pends some = jobs_left some

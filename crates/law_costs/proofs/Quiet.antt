@@ -1,15 +1,15 @@
 -- A state in which no work stands: what is left is that of a running job below the level.
 use Rattle.std.proofs.Common.{ℕ, ◌≡◌, ◌<◌, ◌≤◌, ◌+◌, inl, inr, Bool, true, false, cond, not, ◌&&◌, ◌||◌, refl, sym, ◌∙◌, ap, arith}
-use Rattle.std.specs.Prelude.{Option, Some, None, is_some, nat_le, slice_index}
+use Rattle.std.specs.Prelude.{Some, None, nat_le, slice_index}
 use Rattle.std.specs.List.{AllByRecursion, list_any, sum_by}
 use Rattle.std.proofs.lemmas.Bool.{cases_lt, le-leb}
 use Rattle.osek_base.specs.Priority.{dynamic_priority}
-use Rattle.osek_base.specs.State.{Active, Job, State, job_of, same_id, waits}
+use Rattle.osek_base.specs.State.{Job, State, job_of, same_id, waits}
 use Rattle.osek_base.specs.System.{System, priority_of}
 use Rattle.law_runs.proofs.Lists.{all_both, all_weaker, any_none, clash, found}
 use Rattle.law_runs.proofs.Ranked.{raised_above}
 use Rattle.law_runs.proofs.RankedTick.{IsRunState}
-use Rattle.law_windows.specs.Work.{has_work, is_work}
+use Rattle.law_windows.specs.Work.{has_work, is_active_at, is_work, some_pending}
 use Rattle.law_costs.specs.Left.{Weights, counts, is_off, left, left_of_active, left_of_job, left_of_jobs, of_all_alarms, on, switch_for, switch_of}
 use Rattle.law_costs.proofs.Alarms.{no_more}
 use Rattle.law_costs.proofs.Dispatch.{high_parts}
@@ -21,20 +21,20 @@ use Rattle.law_costs.proofs.Running.{IsResting}
 use Rattle.law_costs.proofs.Totals.{none_any}
 use Rattle.law_costs.proofs.Work.{none_left}
 
--- no routine is active or pending, and no job of the level is ready
+-- no routine of the level is active or pending, and no job of it is ready
 pub record IsUnbusy (S : System) (p : ℕ) (s : State) : Type 0 where
-  pub active : s.active ≡ None
-  pub pending : list_any (λ flag. flag) s.pending ≡ false
+  pub active : is_active_at S p s.active ≡ false
+  pub pending : some_pending S p s ≡ false
   pub jobs : AllByRecursion (λ k. is_work S p k ≡ false) s.jobs
 
 pub unbusy : (S : System) (p : ℕ) (s : State) → has_work S p s ≡ false → IsUnbusy S p s
-unbusy S p s none = go s.active (list_any (λ flag. flag) s.pending) refl refl none
+unbusy S p s none = go (is_active_at S p s.active) (some_pending S p s) refl refl none
   where
-    go : (o : Option Active) (b : Bool) → s.active ≡ o → list_any (λ flag. flag) s.pending ≡ b
-        → (is_some o || (b || list_any (is_work S p) s.jobs)) ≡ false → IsUnbusy S p s
-    go (Some a) b is pends none = clash none
-    go None true is pends none = clash none
-    go None false is pends none =
+    go : (a b : Bool) → is_active_at S p s.active ≡ a → some_pending S p s ≡ b
+        → (a || (b || list_any (is_work S p) s.jobs)) ≡ false → IsUnbusy S p s
+    go true b is pends none = clash none
+    go false true is pends none = clash none
+    go false false is pends none =
         record { active = is; pending = pends; jobs = any_none (is_work S p) s.jobs none }
 
 -- then none stands
@@ -42,8 +42,7 @@ pub not_busy : (S : System) (p : ℕ) (s : State) → IsUnbusy S p s → has_wor
 not_busy S p s quiet some =
     clash
     (sym some
-    ∙ ap (λ o. is_some o || (list_any (λ flag. flag) s.pending || list_any (is_work S p) s.jobs))
-    quiet.active
+    ∙ ap (λ b. b || (some_pending S p s || list_any (is_work S p) s.jobs)) quiet.active
     ∙ ap (λ b. b || list_any (is_work S p) s.jobs) quiet.pending
     ∙ none_any (is_work S p) s.jobs quiet.jobs)
 
@@ -58,14 +57,14 @@ lower S p k ready none = elim (cases_lt (priority_of S k.id.task) p) [
       ∙ sym (ap (λ b. not b && nat_le p (priority_of S k.id.task)) ready) ∙ none)
 ]
 
--- where no job is ready, the section that a dispatch may begin stands for them
+-- where no routine is active and no job is ready, the section that a dispatch may begin stands for them
 pub none_counts_left : (S : System) (p : ℕ) (c : Weights) (s : State) → IsUnbusy S p s
-    → IsResting s → c.of_section + of_all_alarms S c ≤ c.costs.at_begin
+    → s.active ≡ None → IsResting s → c.of_section + of_all_alarms S c ≤ c.costs.at_begin
     → left S p c s ≤ c.costs.at_begin
-none_counts_left S p c s quiet rests section =
+none_counts_left S p c s quiet idle rests section =
     let active : left_of_active c (switch_of s) s.active ≡ 0 =
-    ap (left_of_active c (switch_of s)) quiet.active in
-    let pending = none_left S c s quiet.pending in
+    ap (left_of_active c (switch_of s)) idle in
+    let pending = none_left S p c s quiet.pending in
     let none : left_of_jobs S p c s.masks (switch_for s) s.jobs ≡ c.of_section =
     ap (λ b. cond b (sum_by (left_of_job S p c s.masks (switch_for s)) s.jobs) c.of_section)
     (none_any (λ k. counts S p (switch_for s k) k) s.jobs
@@ -133,8 +132,8 @@ module _ (S : System) (p : ℕ) (c : Weights) (s : State) (good : IsRunState S s
       → left S p c s ≤ c.costs.at_begin
   little_left section =
       let active : left_of_active c (switch_of s) s.active ≡ 0 =
-      ap (left_of_active c (switch_of s)) quiet.active in
-      let pending = none_left S c s quiet.pending in
+      ap (left_of_active c (switch_of s)) runs.idle in
+      let pending = none_left S p c s quiet.pending in
       let jobs = go (list_any (λ k. counts S p (switch_for s k) k) s.jobs) in
       let held = no_more S c s.alarms in
       omega (arith, active, pending, jobs, held)

@@ -21,9 +21,9 @@ pub record Pay (S : System) (mode p : ℕ) (c : Weights) (known : Known) : Type 
   pub something : CostSomething S p c known
   pub dispatch : PayForDispatch S p c
   pub starts : PayForStarts S p c known
-  pub coming : PayForComing S c
+  pub coming : PayForComing S p c
   pub boot : PayForBoot S mode p c
-  pub routines : PayForRoutines S c known
+  pub routines : PayForRoutines S p c known
   pub jobs : PayForJobs S p c known
   pub once : AreKnownOnce S mode c known
 

@@ -6,9 +6,9 @@ use Rattle.osek_base.specs.Lists.{below}
 use Rattle.osek_base.specs.Priority.{dynamic_priority}
 use Rattle.osek_base.specs.State.{Active, Expiry, Job, State, waits}
 use Rattle.osek_base.specs.System.{System}
-use Rattle.osek_base.specs.Tick.{is_pending}
 use Rattle.law_future.specs.Shown.{chosen_of}
 use Rattle.law_windows.specs.Coming.{Costs}
+use Rattle.law_windows.specs.Work.{is_pending_at}
 
 -- ---- interrupts, for who executes
 
@@ -42,7 +42,7 @@ switch_for s j = if not (is_some s.active) && is_job s.running j.id then switch_
 -- instructions of a level that are counted: those of who executes as it stands, from there to its
 -- end or to where an event pays again, and those of all that it starts
 pub record Weights : Type 0 where
-  -- of the active routine
+  -- of the active routine: of a lower one too, to its end
   pub of_active : Switch → Active → ℕ
   -- of a job of the level, by the events that are set for its task; of a lower one, to the end of
   -- the section in which it is
@@ -79,9 +79,9 @@ abbrev pub left_of_active : Weights → Switch → Option Active → ℕ
 left_of_active c w None = 0
 left_of_active c w (Some a) = c.of_active w a
 
--- of the routines that are pending
-abbrev pub left_of_pending : System → Weights → State → ℕ
-left_of_pending S c s = sum_by c.costs.of_arrival (chosen_of S (is_pending s))
+-- of the routines of the level that are pending
+abbrev pub left_of_pending : System → ℕ → Weights → State → ℕ
+left_of_pending S p c s = sum_by c.costs.of_arrival (chosen_of S (is_pending_at S p s))
 
 -- of the alarms that are set
 abbrev pub left_of_alarms : System → Weights → List (Option Expiry) → ℕ
@@ -97,5 +97,5 @@ of_all_alarms S c = sum_by c.of_alarm (below (length S.alarms))
 abbrev pub left : System → ℕ → Weights → State → ℕ
 left S p c s =
     left_of_active c (switch_of s) s.active
-    + (left_of_pending S c s
+    + (left_of_pending S p c s
     + (left_of_jobs S p c s.masks (switch_for s) s.jobs + left_of_alarms S c s.alarms))

@@ -12,6 +12,7 @@ use Rattle.osek_base.specs.Tick.{action_call}
 use Rattle.osek_base.specs.Trace.{starting_tasks}
 use Rattle.osek_base.specs.Types.{ServiceCall}
 use Rattle.law_windows.specs.Routines.{begun}
+use Rattle.law_windows.specs.Work.{goes_at}
 use Rattle.law_costs.specs.Left.{Switch, Weights, counts, of_all_alarms, on}
 use Rattle.law_costs.specs.Known.{IsKnownJob, IsKnownRoutine, Known}
 
@@ -57,10 +58,10 @@ pub record PayForStarts (S : System) (p : ℕ) (c : Weights) (known : Known) : T
   pub more : (m x : ℕ) (w : Switch) (j : Job) → IsKnownJob known w j → waits j ≡ false
       → c.of_job (bit_or m x) w j ≤ c.of_job m w j + c.of_event j.id.task x
 
--- an interrupt pays for its whole routine; an expiry, with what its alarm holds, for what that
--- starts
-pub record PayForComing (S : System) (c : Weights) : Type 0 where
-  pub routine : (i : ℕ) → i < length S.routines
+-- an interrupt of a routine of the level pays for the whole routine; an expiry, with what its alarm
+-- holds, for what that starts
+pub record PayForComing (S : System) (p : ℕ) (c : Weights) : Type 0 where
+  pub routine : (i : ℕ) → i < length S.routines → goes_at S p i ≡ true
       → c.of_active on (begun i) ≤ c.costs.of_arrival i
   pub alarm : (a : ℕ) → a < length S.alarms
       → start_of c (action_call (alarm S a).action) ≤ c.costs.of_expiry a + c.of_alarm a

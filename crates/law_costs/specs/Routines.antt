@@ -1,5 +1,5 @@
 -- Costs of routines, by one inequality for each instruction of a known routine.
-use Rattle.std.specs.Prelude.{ℕ, ◌+◌, ◌≤◌, Option, Some, None}
+use Rattle.std.specs.Prelude.{ℕ, ◌+◌, ◌≡◌, ◌≤◌, false, Option, Some, None}
 use Rattle.osek_base.specs.declared.instr.Service.{Service}
 use Rattle.osek_base.specs.declared.status.Status.{Status}
 use Rattle.osek_base.specs.Service.{Caller, RoutineCalls, service}
@@ -7,7 +7,8 @@ use Rattle.osek_base.specs.State.{Active, State}
 use Rattle.osek_base.specs.System.{System}
 use Rattle.osek_base.specs.Types.{ServiceCall}
 use Rattle.law_alarms.specs.Setting.{call_by}
-use Rattle.law_costs.specs.Left.{Weights, left_of_active, switch_of}
+use Rattle.law_windows.specs.Work.{goes_at}
+use Rattle.law_costs.specs.Left.{Weights, left_of_active, of_all_alarms, switch_of}
 use Rattle.law_costs.specs.Known.{Executes, IsKnownRoutine, Known, behind_by}
 use Rattle.law_costs.specs.Paying.{start_of}
 
@@ -50,8 +51,20 @@ TakesIn S c s a =
     + (set_by S c (RoutineCalls a) s (call_by S (RoutineCalls a)) + 1))
     ≤ c.of_active (switch_of s) a
 
+-- ---- what is asked
+
+-- what is left of a routine behind an instruction that it executes is
+pub record RoutinePaysIn (S : System) (p : ℕ) (c : Weights) (s : State) (a : Active)
+    : Type 0 where
+  -- one less at least, with what that starts and sets
+  pub takes : TakesIn S c s a
+  -- no more than may be where a window begins, where the routine isn't of the level: no task is
+  -- then, so whatever is started and set, no more than the section and all alarms are
+  pub begins : goes_at S p a.routine ≡ false
+      → left_behind_routine S c s a + (c.of_section + of_all_alarms S c) ≤ c.costs.at_begin
+
 -- so it is where a known routine executes, whatever good state it finds
-abbrev pub PayForRoutines : System → Weights → Known → Type 0
-PayForRoutines S c known =
+abbrev pub PayForRoutines : System → ℕ → Weights → Known → Type 0
+PayForRoutines S p c known =
     (s : State) (a : Active) → Executes S (RoutineCalls a) s → IsKnownRoutine known (switch_of s) a
-    → TakesIn S c s a
+    → RoutinePaysIn S p c s a

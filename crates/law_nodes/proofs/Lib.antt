@@ -22,6 +22,7 @@ pub mod RoutineOutcomes
 pub mod Priorities
 pub mod Counting
 pub mod Paying
+pub mod PayingRoutines
 pub mod WorkedLemmas
 pub mod Setting
 pub mod SettingOnce

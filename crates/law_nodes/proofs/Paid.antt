@@ -14,6 +14,7 @@ use Rattle.osek_base.specs.System.{System, alarm, is_extended, priority_of}
 use Rattle.osek_base.specs.Tick.{action_call}
 use Rattle.osek_base.specs.Trace.{starting_tasks}
 use Rattle.law_windows.specs.Routines.{begun}
+use Rattle.law_windows.specs.Work.{goes_at}
 use Rattle.law_runs.proofs.Foremost.{static_le}
 use Rattle.law_runs.proofs.Lists.{all_any, clash}
 use Rattle.law_costs.specs.Known.{Known}
@@ -27,7 +28,7 @@ use Rattle.law_nodes.specs.Paid.{EventCosts, PricesPay, alarms_pay, boot_pays, e
 use Rattle.law_nodes.specs.Prices.{Priced, alone, cost_of, highest, nodes_pay, priced_by, table_of, with_held}
 use Rattle.law_nodes.specs.Setting.{are_set_once}
 use Rattle.law_nodes.proofs.Priorities.{dynamic_high, dynamic_low}
-use Rattle.law_nodes.proofs.Paying.{nodes_pay_for_all}
+use Rattle.law_nodes.proofs.PayingRoutines.{nodes_pay_for_all}
 use Rattle.law_nodes.proofs.Pricing.{cost_raised, none_above, paid_within, told_from, told_priced}
 use Rattle.law_nodes.proofs.Masks.{meeting_new, one_passes}
 use Rattle.law_nodes.proofs.MaskSums.{one_within}
@@ -237,13 +238,16 @@ module _ (S : System) (mode p : ℕ) (c : Weights) (e : EventCosts) (prices : Li
       (subst (λ (k : Node). pays_fresh k.owner S p d q ≡ true) is.0 paid.fresh)) in
       omega (arith, none, enough)))
 
-  fresh_routine : (i : ℕ) → cost_of alone prices (of_routine on (begun i)) ≤ c.costs.of_arrival i
-  fresh_routine i =
+  fresh_routine : (i : ℕ) → goes_at S p i ≡ true
+      → cost_of alone prices (of_routine on (begun i)) ≤ c.costs.of_arrival i
+  fresh_routine i goes =
       within alone (of_routine on (begun i)) (c.costs.of_arrival i)
       (λ q paid at.
       (let is = at_is q.node (of_routine on (begun i)) at in
       leb-true q.cost (c.costs.of_arrival i)
-      (unless (is_at q.node (of_routine on (begun i))) (nat_le q.cost (c.costs.of_arrival i)) at
+      (unless (goes_at S p i && is_at q.node (of_routine on (begun i)))
+      (nat_le q.cost (c.costs.of_arrival i))
+      (and_from (goes_at S p i) (is_at q.node (of_routine on (begun i))) goes at)
       (subst (λ (m : Node). pays_fresh m.owner S p d q ≡ true) is.0 paid.fresh))))
 
   -- a job whose wait ends, by one of the events that are set then
@@ -350,9 +354,9 @@ module _ (S : System) (mode p : ℕ) (c : Weights) (e : EventCosts) (prices : Li
     more = λ m x w j told ready. more_of m x w j;
   }
 
-  coming : PayForComing S costs
+  coming : PayForComing S p costs
   coming = record {
-    routine = λ i inside. fresh_routine i;
+    routine = λ i inside goes. fresh_routine i goes;
     alarm = λ a inside.
         leb-true (start_of d (action_call (alarm S a).action)) (c.costs.of_expiry a + c.of_alarm a)
         (one_below

@@ -1,4 +1,4 @@
--- Costs of nodes pay for the instructions of who is at them.
+-- Costs of nodes pay for the instructions of jobs that are at them.
 use Rattle.std.proofs.Common.{◌≡◌, ℕ, ◌+◌, ◌≤◌, ◌<◌, Bool, true, false, cond, not, ◌&&◌, ◌||◌, nat_le, List, refl, sym, ◌∙◌, ap, subst, arith}
 use Rattle.std.specs.Prelude.{Option, Some, None, IfSome, is_some, slice_index}
 use Rattle.std.specs.List.{AllByRecursion, list_all}
@@ -6,20 +6,19 @@ use Rattle.std.proofs.lemmas.Bool.{and_parts, leb-true, lt-leb, not-true}
 use Rattle.osek_base.specs.declared.ids.Owner.{Owner}
 use Rattle.osek_base.specs.declared.instr.Instr.{Instr}
 use Rattle.osek_base.specs.Priority.{dynamic_priority}
-use Rattle.osek_base.specs.Service.{JobCalls, RoutineCalls}
-use Rattle.osek_base.specs.State.{Active, Job, JobId, State, job_of, same_id, waits}
+use Rattle.osek_base.specs.Service.{JobCalls}
+use Rattle.osek_base.specs.State.{Job, JobId, State, job_of, same_id, waits}
 use Rattle.osek_base.specs.System.{System, instruction_at, priority_of}
 use Rattle.law_alarms.specs.Setting.{call_by}
 use Rattle.law_runs.proofs.Known.{IsCaller, IsRunningCaller, executor_calls}
 use Rattle.law_runs.proofs.Foremost.{same_ids}
 use Rattle.law_runs.proofs.Lists.{all_any, all_weaker, clash, found, none_some, some_inside}
 use Rattle.law_costs.specs.Jobs.{PaysIn, behind, left_behind, left_of_own, left_of_section, set, started}
-use Rattle.law_costs.specs.Known.{Executes, behind_by}
-use Rattle.law_costs.specs.Left.{Switch, Weights, counts, is_off, left_of_active, of_all_alarms, switch_of}
-use Rattle.law_costs.specs.Routines.{TakesIn, left_behind_routine, set_by, started_by}
+use Rattle.law_costs.specs.Known.{Executes}
+use Rattle.law_costs.specs.Left.{Switch, Weights, counts, is_off, of_all_alarms, switch_of}
 use Rattle.law_nodes.specs.Early.{awaited, freed_early, held_early}
-use Rattle.law_nodes.specs.Nodes.{Node, Standing, Table, covers, is_at, is_beside, is_told, is_within, of_job, of_routine}
-use Rattle.law_nodes.specs.Prices.{NodesPay, Priced, all_outcomes, alone, cost_of, is_paid, job_fits, may_count, node_pays, nodes_pay, pays_by, priced_by, routine_fits, section_behind, stays_counted, table_of, with_held}
+use Rattle.law_nodes.specs.Nodes.{Node, Standing, Table, covers, is_at, is_beside, is_told, is_within, of_job}
+use Rattle.law_nodes.specs.Prices.{Priced, all_outcomes, cost_of, is_paid, job_fits, may_count, node_pays, nodes_pay, pays_by, priced_by, section_behind, stays_counted, table_of, with_held}
 use Rattle.law_nodes.specs.Values.{know_no_more}
 use Rattle.law_nodes.proofs.Counting.{HasCounted, staying_at}
 use Rattle.law_nodes.proofs.Priorities.{counting_at}
@@ -29,7 +28,6 @@ use Rattle.law_nodes.proofs.JobOutcomes.{JobOutcome, job_outcome}
 use Rattle.law_nodes.proofs.Knowing.{AreValues}
 use Rattle.law_nodes.proofs.Owning.{IsOwn, caller_alone}
 use Rattle.law_nodes.proofs.Pricing.{paid_within, told_from, told_priced}
-use Rattle.law_nodes.proofs.RoutineOutcomes.{RoutineOutcome, routine_outcome}
 use Rattle.law_nodes.proofs.Standing.{at_is, covered_at, node_of}
 use Rattle.law_nodes.proofs.Tests.{by_any, by_any_of, each_passing, second, unless}
 
@@ -307,78 +305,3 @@ module _ (S : System) (p : ℕ) (c : Weights) (held : ℕ → ℕ → ℕ) (pric
           (λ q. is_at q.node (of_job w j)) (node_pays S p c held prices) prices
           (λ q at pays. begins_of q at pays low) (told_priced (of_job w j) prices told) pay;
     }
-
-  -- ---- an instruction of a routine
-
-  module _ (s : State) (a : Active) (executes : Executes S (RoutineCalls a) s) where
-    abbrev there : State
-    there = behind_by S (RoutineCalls a) s
-
-    abbrev starts : ℕ
-    starts = started_by S costs (RoutineCalls a) s (call_by S (RoutineCalls a))
-
-    abbrev sets : ℕ
-    sets = set_by S costs (RoutineCalls a) s (call_by S (RoutineCalls a))
-
-    abbrev there_is : Instr
-    there_is = instruction_at S (Owner.Routine a.routine) a.context.place
-
-    routine_within : (x : Standing) (more most : ℕ) (n : Node)
-        → is_paid prices more most n ≡ true → is_at n x ≡ true
-        → cost_of alone prices x + more ≤ most
-    routine_within x more most n paid at =
-        paid_within alone x prices more most
-        (λ q. covers q.node n && nat_le (q.cost + more) most)
-        (λ q both.
-        (let parts = and_parts (covers q.node n) (nat_le (q.cost + more) most) both in
-        (covered_at q.node n x parts.0 at, leb-true (q.cost + more) most parts.1)))
-        paid
-
-    active_fits : (more most : ℕ) (next : Table) (o : Option Active) (v : Switch)
-        → routine_fits prices more most next ≡ true
-        → IfSome o (λ b. is_told next (of_routine v b) ≡ true)
-        → left_of_active costs v o + more ≤ most
-    active_fits more most next None v fits own =
-        let both = and_parts (list_all (is_paid prices more most) next) (nat_le more most) fits in
-        let less = leb-true more most both.1 in
-        omega (arith, less)
-    active_fits more most next (Some b) v fits own =
-        by_any (cost_of alone prices (of_routine v b) + more ≤ most) (λ m. is_at m (of_routine v b))
-        (is_paid prices more most) next
-        (λ m at paid. routine_within (of_routine v b) more most m paid at) own
-        (and_parts (list_all (is_paid prices more most) next) (nat_le more most) fits).0
-
-    abbrev pays_routine : Priced → Table → ℕ → ℕ → Bool
-    pays_routine q = pays_by (Owner.Routine a.routine) S p c held there_is prices q
-
-    taken_of : (q : Priced) → is_at q.node (of_routine (switch_of s) a) ≡ true
-        → node_pays S p c held prices q ≡ true
-        → left_behind_routine S costs s a + (starts + (sets + 1)) ≤ q.cost
-    taken_of q at pays =
-        let is = at_is q.node (of_routine (switch_of s) a) at in
-        let got : RoutineOutcome (pays_routine q) (switch_of there) starts sets there.active =
-        routine_outcome S s a (subst (IsCaller s) executes.calls (executor_calls s))
-        q.node.registers q.node.used is.1 costs (pays_routine q) there_is executes.goes_on
-        (subst
-        (λ m. (is_some m.waits_for || all_outcomes S c
-        (pays_by m.owner S p c held (instruction_at S m.owner m.place) prices q)
-        (instruction_at S m.owner m.place) m) ≡ true)
-        is.0 pays) in
-        active_fits (starts + (sets + 1)) q.cost got.next there.active (switch_of there) got.paid
-        got.own
-
-    pub routine_pays : nodes_pay S p c held prices ≡ true
-        → is_told (table_of prices) (of_routine (switch_of s) a) ≡ true → TakesIn S costs s a
-    routine_pays pay told =
-        told_from alone (of_routine (switch_of s) a)
-        (left_behind_routine S costs s a + (starts + (sets + 1))) prices told
-        (each_passing
-        (λ q. is_at q.node (of_routine (switch_of s) a) ≡ true
-        → left_behind_routine S costs s a + (starts + (sets + 1)) ≤ q.cost)
-        (node_pays S p c held prices) prices (λ q pays at. taken_of q at pays) pay)
-
-pub nodes_pay_for_all : NodesPay
-nodes_pay_for_all S p c held prices pay = record {
-  jobs = λ s j executes told. job_pays S p c held prices s j executes pay told;
-  routines = λ s a executes told. routine_pays S p c held prices s a executes pay told;
-}

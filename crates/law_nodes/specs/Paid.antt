@@ -14,6 +14,7 @@ use Rattle.arrival_rules.specs.declared.rule.ArrivalRule.{ArrivalRule}
 use Rattle.law_windows.specs.Analysis.{AreAlwaysEnough, IsBoundOf}
 use Rattle.law_windows.specs.Expiring.{most_expiries}
 use Rattle.law_windows.specs.Routines.{begun}
+use Rattle.law_windows.specs.Work.{goes_at}
 use Rattle.law_costs.specs.Laws.{Pay}
 use Rattle.law_costs.specs.Left.{Weights, is_off, of_all_alarms, on}
 use Rattle.law_costs.specs.Paying.{is_upper, start_of}
@@ -45,14 +46,15 @@ pub record EventCosts : Type 0 where
 
 -- ---- what begins at a node
 
--- a job of the level that is activated, and a routine whose interrupt arrives
+-- a job of the level that is activated, and a routine of it whose interrupt arrives
 abbrev pub pays_fresh : Owner → System → ℕ → Weights → Priced → Bool
 pays_fresh (Owner.Task t) S p c q =
     not (nat_le p (priority_of S t)
     && is_at q.node (of_job on (new_job (record { task = t; serial = 0 }))))
     || nat_le q.cost (c.of_task t)
 pays_fresh (Owner.Routine i) S p c q =
-    not (is_at q.node (of_routine on (begun i))) || nat_le q.cost (c.costs.of_arrival i)
+    not (goes_at S p i && is_at q.node (of_routine on (begun i)))
+    || nat_le q.cost (c.costs.of_arrival i)
 
 -- a job whose wait ends, by an event that costs so much: all others that it may find set and that
 -- aren't used are paid with it, as long as it waits

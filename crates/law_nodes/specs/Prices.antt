@@ -8,6 +8,7 @@ use Rattle.osek_base.specs.Ceiling.{ceiling, internal_ceiling}
 use Rattle.osek_base.specs.Lists.{greatest}
 use Rattle.osek_base.specs.Service.{answer}
 use Rattle.osek_base.specs.System.{System, instruction_at, priority_of}
+use Rattle.law_windows.specs.Work.{goes_at}
 use Rattle.law_costs.specs.Jobs.{PayForJobs, left_of_section}
 use Rattle.law_costs.specs.Left.{Weights, is_off, of_all_alarms}
 use Rattle.law_costs.specs.Routines.{PayForRoutines, set_where, started_where}
@@ -96,7 +97,8 @@ routine_fits prices more most next =
     list_all (is_paid prices more most) next && nat_le more most
 
 -- whether the cost of a node pays for steps and what is started and set with them: one less is left
--- at least; of a lower job no more than may be where a window begins, whatever alarms are set
+-- at least; of a lower job, or a lower routine, no more than may be where a window begins, whatever
+-- alarms are set. Where a routine is lower no task is of the level, so none is started
 abbrev pub pays_by : Owner → System → ℕ → Weights → (ℕ → ℕ → ℕ) → Instr → List Priced → Priced
     → Table → ℕ → ℕ → Bool
 pays_by (Owner.Task t) S p c held what prices q next start set =
@@ -107,6 +109,8 @@ pays_by (Owner.Task t) S p c held what prices q next start set =
     || job_fits S p c (λ m. 0) prices q.node (start + of_all_alarms S c) c.costs.at_begin next)
 pays_by (Owner.Routine i) S p c held what prices q next start set =
     routine_fits prices (start + (set + 1)) q.cost next
+    && (goes_at S p i
+    || routine_fits prices (c.of_section + of_all_alarms S c) c.costs.at_begin next)
 
 -- whether a test passes of what may become of who is at a node, and what is started and set with
 -- that: by each answer that a service may give
@@ -135,7 +139,7 @@ nodes_pay S p c held prices = list_all (node_pays S p c held prices) prices
 pub record PayForNodes (S : System) (p : ℕ) (c : Weights) (held : ℕ → ℕ → ℕ)
     (prices : List Priced) : Type 0 where
   pub jobs : PayForJobs S p (priced_by S p c held prices) (known_by (table_of prices))
-  pub routines : PayForRoutines S (priced_by S p c held prices) (known_by (table_of prices))
+  pub routines : PayForRoutines S p (priced_by S p c held prices) (known_by (table_of prices))
 
 abbrev pub NodesPay : Type 0
 NodesPay =

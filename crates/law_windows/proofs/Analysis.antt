@@ -55,9 +55,9 @@ analysis_bounds_responses S mode rules p costs often most enough counted = recor
   tasks = λ k high arrivals n since job keep going of ready.
       (responses arrivals keep).jobs n since job going
       (subst (λ t. p ≤ priority_of S t) (sym of) high) ready;
-  losses = λ arrivals n keep known apart.
+  losses = λ arrivals n keep known level apart.
       soon_started_are_not_lost S mode rules arrivals p most n keep (responses arrivals keep)
-      known apart;
+      known level apart;
 }
   where
     windows : (arrivals : List Arrival) → KeepRules S rules arrivals

@@ -21,6 +21,7 @@ use Rattle.law_bounds.proofs.Comings.{first_counts}
 use Rattle.law_windows.specs.Responses.{RespondWithin}
 use Rattle.law_windows.specs.Losses.{KeepsApart, NoneIsLost, SoonStartedAreNotLost}
 use Rattle.law_windows.proofs.Before.{or_true, pending_alarms, pending_reschedule}
+use Rattle.law_windows.specs.Work.{goes_at}
 use Rattle.law_windows.proofs.Responses.{same_flags}
 
 -- ---- flags
@@ -173,6 +174,8 @@ period_apart rule arrivals t apart keeps one other =
 module _ (S : System) (mode : ℕ) (rules : List ArrivalRule) (arrivals : List Arrival)
     (p most r : ℕ) (keep : KeepRules S rules arrivals)
     (within : RespondWithin S mode arrivals p most)
+    (known : (rule_at rules r).routine < length S.routines)
+    (level : goes_at S p (rule_at rules r).routine ≡ true)
     (short : KeepsApart (rule_at rules r) most) where
   abbrev i : ℕ
   i = (rule_at rules r).routine
@@ -184,7 +187,7 @@ module _ (S : System) (mode : ℕ) (rules : List ArrivalRule) (arrivals : List A
       let early = found.early in
       let order : found.since ≤ n = omega (arith, early) in
       let soon : suc n < found.since + most =
-      within.routines n found.since i going order
+      within.routines n found.since i going known level order
       (λ t low high. found.pends t low (omega (arith, high))) in
       let apart : ℕ = n - found.since in
       let is : suc n ≡ found.since + suc apart = omega (arith, order) in
@@ -201,5 +204,5 @@ module _ (S : System) (mode : ℕ) (rules : List ArrivalRule) (arrivals : List A
       go true is = absurd (no_room n going now (since_when S mode arrivals i n going is))
 
 pub soon_started_are_not_lost : SoonStartedAreNotLost
-soon_started_are_not_lost S mode rules arrivals p most n keep within known short =
-    none_lost S mode rules arrivals p most n keep within short
+soon_started_are_not_lost S mode rules arrivals p most n keep within known level short =
+    none_lost S mode rules arrivals p most n keep within known level short

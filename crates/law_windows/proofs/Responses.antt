@@ -1,5 +1,5 @@
 -- A job that is ready, and a routine that is pending, lie in one window as long as they are.
-use Rattle.std.proofs.Common.{ℕ, zero, suc, ◌≡◌, ◌<◌, ◌≤◌, ◌+◌, inl, inr, true, false, List, sym, ◌∙◌, ap, subst, arith}
+use Rattle.std.proofs.Common.{ℕ, zero, suc, ◌≡◌, ◌<◌, ◌≤◌, ◌+◌, inl, inr, true, false, List, length, sym, ◌∙◌, ap, subst, arith}
 use Rattle.std.specs.Prelude.{slice_index_or}
 use Rattle.std.proofs.lemmas.Bool.{cases_lt}
 use Rattle.osek_base.specs.declared.arrivals.Arrival.{Arrival}
@@ -11,12 +11,12 @@ use Rattle.law_runs.proofs.RunSteps.{run_tick, state_more}
 use Rattle.law_blockers.specs.Steps.{step_at}
 use Rattle.seen_ticks.proofs.Staying.{pending_stays}
 use Rattle.law_jobs.specs.ReadySince.{IsReadySince}
-use Rattle.law_windows.specs.Work.{has_work_after, is_busy}
+use Rattle.law_windows.specs.Work.{goes_at, has_work_after, is_busy}
 use Rattle.law_windows.specs.Windows.{LieInAWindow, WindowsEndWithin}
 use Rattle.law_windows.specs.Responses.{PendsBehind, ResponsesLieInWindows}
 use Rattle.law_windows.proofs.Begins.{busy_ticks_lie_in_windows}
 use Rattle.law_windows.proofs.Short.{going_early}
-use Rattle.law_windows.proofs.Working.{job_is_work, one_pends, pending_is_work, pending_works}
+use Rattle.law_windows.proofs.Working.{Pends, job_is_work, pending_is_work, pending_works}
 
 -- who is pending behind a tick was so at its instruction
 pub same_flags : (S : System) (mode : ℕ) (arrivals : List Arrival) (t : ℕ)
@@ -51,40 +51,44 @@ module _ (S : System) (mode : ℕ) (arrivals : List Arrival) (p most : ℕ)
 
   -- ---- routines
 
-  busy_at : (t i : ℕ) → (run S mode arrivals t).state.over ≡ false
-      → is_pending (run S mode arrivals (suc t)).state i ≡ true
-      → is_busy S mode arrivals p t ≡ true
-  busy_at t i going on =
-      let executing : State = (step_at S mode arrivals t).executing in
-      let pends : is_pending executing i ≡ true =
-      subst (λ flags. slice_index_or flags i false ≡ true) (same_flags S mode arrivals t going)
-      on in
-      pending_is_work S p executing (one_pends executing i pends)
-
-  busy_behind : (t i : ℕ) → is_pending (run S mode arrivals t).state i ≡ true
-      → is_busy S mode arrivals p t ≡ true
-  busy_behind t i on =
-      let before : State = (run S mode arrivals t).state in
-      pending_works S p (arriving arrivals before.tick) before (one_pends before i on)
-
   module _ (n since i : ℕ) (going : (run S mode arrivals (suc n)).state.over ≡ false)
+      (known : i < length S.routines) (level : goes_at S p i ≡ true)
       (order : since ≤ n) (pends : PendsBehind S mode arrivals i since n) where
+    pend : (s : State) → is_pending s i ≡ true → Pends S p s i
+    pend s on = record { known = known; goes = level; pends = on }
+
+    busy_at : (t : ℕ) → (run S mode arrivals t).state.over ≡ false
+        → is_pending (run S mode arrivals (suc t)).state i ≡ true
+        → is_busy S mode arrivals p t ≡ true
+    busy_at t now on =
+        let executing : State = (step_at S mode arrivals t).executing in
+        pending_is_work S p executing i
+        (pend executing
+        (subst (λ flags. slice_index_or flags i false ≡ true) (same_flags S mode arrivals t now)
+        on))
+
+    busy_behind : (t : ℕ) → is_pending (run S mode arrivals t).state i ≡ true
+        → is_busy S mode arrivals p t ≡ true
+    busy_behind t on =
+        let before : State = (run S mode arrivals t).state in
+        pending_works S p (arriving arrivals before.tick) before i (pend before on)
+
     busy : (t : ℕ) → since ≤ t → t ≤ suc n → is_busy S mode arrivals p t ≡ true
     busy t low high = elim (cases_lt n t) [
       | inl last ↦
           let same : suc n ≡ t = omega (arith, high, last) in
           subst (λ (k : ℕ). is_busy S mode arrivals p k ≡ true) same
-          (busy_behind (suc n) i (pends n order (omega arith)))
+          (busy_behind (suc n) (pends n order (omega arith)))
       | inr inside ↦
-          busy_at t i (going_early S mode arrivals (suc n) t high going) (pends t low inside)
+          busy_at t (going_early S mode arrivals (suc n) t high going) (pends t low inside)
     ]
 
     joined : (t : ℕ) → since < t → t ≤ suc n → has_work_after S mode arrivals p t ≡ true
     joined zero low high = absurd (omega (arith, low))
     joined (suc t) low high =
         let behind : State = (run S mode arrivals (suc t)).state in
-        pending_is_work S p behind
-        (one_pends behind i (pends t (omega (arith, low)) (omega (arith, high))))
+        pending_is_work S p behind i
+        (pend behind (pends t (omega (arith, low)) (omega (arith, high))))
 
     routines_within : suc n < since + most
     routines_within =

@@ -26,7 +26,7 @@ module _ (S : System) where
       (routine_started (routine_choice S s) s) s).active) is
       ∙ is
 
-  executing_active : (arrived : List ℕ) (s : State) (a : Active) → s.active ≡ Some a
+  pub executing_active : (arrived : List ℕ) (s : State) (a : Active) → s.active ≡ Some a
       → (tick S arrived s).executing.active ≡ Some a
   unfolding tick
   executing_active arrived s a is =

@@ -1,15 +1,14 @@
 -- Work that stands before a tick stands at its instruction.
 use Rattle.std.proofs.Common.{ℕ, ◌≡◌, ◌≤◌, Bool, true, false, cond, not, ◌&&◌, ◌||◌, List, [], ◌∷◌, ◌++◌, map, refl, sym, ◌∙◌, ap, subst}
-use Rattle.std.specs.Prelude.{is_some, nat_le, ◌==◌}
+use Rattle.std.specs.Prelude.{Option, Some, None, nat_le, ◌==◌}
 use Rattle.std.specs.List.{AllByRecursion, filter, list_any}
 use Rattle.std.proofs.lemmas.Bool.{and_parts, leb-true}
 use Rattle.osek_base.specs.declared.arrivals.Arrival.{Arrival}
 use Rattle.osek_base.specs.Priority.{static_priority}
 use Rattle.osek_base.specs.Proper.{IsProper}
-use Rattle.osek_base.specs.Reschedule.{reschedule}
-use Rattle.osek_base.specs.State.{Job, JobId, State, interrupts_off, jobs_of, waits}
+use Rattle.osek_base.specs.State.{Active, Job, JobId, State, jobs_of, waits}
 use Rattle.osek_base.specs.System.{System, priority_of}
-use Rattle.osek_base.specs.Tick.{alarm_phase, arrival_phase, before_execution, routine_choice, routine_started, start_phase, tick}
+use Rattle.osek_base.specs.Tick.{before_execution, tick}
 use Rattle.osek_base.specs.Trace.{arriving, run}
 use Rattle.law_runs.proofs.Foremost.{equal, self_equal}
 use Rattle.law_runs.proofs.Lists.{clash}
@@ -20,9 +19,9 @@ use Rattle.law_jobs.specs.Standing.{standing, stands, stands_in}
 use Rattle.law_jobs.proofs.Growing.{before_grows}
 use Rattle.law_jobs.proofs.Lists.{Grows, standing_append}
 use Rattle.law_jobs.proofs.Members.{each_of, each_stands}
-use Rattle.law_windows.specs.Work.{WorkStays, has_work, is_work}
-use Rattle.law_windows.proofs.Before.{active_alarms, active_reschedule}
-use Rattle.law_windows.proofs.Working.{job_is_work, pending_works}
+use Rattle.law_windows.specs.Work.{WorkStays, goes_at, has_work, is_active_at, is_work, some_pending}
+use Rattle.law_windows.proofs.Routines.{executing_active}
+use Rattle.law_windows.proofs.Working.{job_is_work, pending_works, some_pends}
 
 -- ---- jobs
 
@@ -87,24 +86,13 @@ module _ (S : System) (p : ℕ) where
 
   -- ---- the active routine
 
-  start_stays : (s : State) → is_some s.active ≡ true → is_some (start_phase S s).active ≡ true
-  unfolding start_phase
-  start_stays s some =
-      ap
-      (λ b. is_some (cond (not b && not (interrupts_off s))
-      (routine_started (routine_choice S s) s) s).active)
-      some
-      ∙ some
-
-  active_works : (arrived : List ℕ) (s : State) → is_some s.active ≡ true
-      → has_work S p (tick S arrived s).executing ≡ true
-  unfolding tick
-  active_works arrived s some =
-      let raised : State = arrival_phase arrived (alarm_phase S s).state in
-      let there : State = (reschedule S raised).state in
-      ap (λ b. b || (list_any (λ flag. flag) (start_phase S there).pending
-      || list_any (is_work S p) (start_phase S there).jobs))
-      (start_stays there (ap is_some (active_reschedule S raised ∙ active_alarms S s) ∙ some))
+  active_works : (arrived : List ℕ) (s : State) (a : Active) → s.active ≡ Some a
+      → goes_at S p a.routine ≡ true → has_work S p (tick S arrived s).executing ≡ true
+  active_works arrived s a is goes =
+      let at : State = (tick S arrived s).executing in
+      ap (λ o. is_active_at S p o || (some_pending S p at || list_any (is_work S p) at.jobs))
+      (executing_active S arrived s a is)
+      ∙ ap (λ b. b || (some_pending S p at || list_any (is_work S p) at.jobs)) goes
 
 -- ---- a tick of a run
 
@@ -141,14 +129,29 @@ module _ (S : System) (mode : ℕ) (arrivals : List Arrival) (p n : ℕ) (proper
       stand.0
 
   works : has_work S p here ≡ true → has_work S p at ≡ true
-  works some = go (is_some here.active) refl (list_any (λ flag. flag) here.pending) refl some
+  works some = go here.active refl (some_pending S p here) refl some
     where
-      go : (b : Bool) → is_some here.active ≡ b → (c : Bool)
-          → list_any (λ flag. flag) here.pending ≡ c
-          → (b || (c || list_any (is_work S p) here.jobs)) ≡ true → has_work S p at ≡ true
-      go true active c pends some = active_works S p (arriving arrivals here.tick) here active
-      go false active true pends some = pending_works S p (arriving arrivals here.tick) here pends
-      go false active false pends some = job_works (some_stands S p here.jobs some)
+      beside : (b : Bool) → some_pending S p here ≡ b
+          → (b || list_any (is_work S p) here.jobs) ≡ true → has_work S p at ≡ true
+      beside true pends some =
+          let one = some_pends S p here pends in
+          pending_works S p (arriving arrivals here.tick) here one.which one.is
+      beside false pends some = job_works (some_stands S p here.jobs some)
+
+      by : (a : Active) → here.active ≡ Some a → (b : Bool) → goes_at S p a.routine ≡ b
+          → (b || (some_pending S p here || list_any (is_work S p) here.jobs)) ≡ true
+          → has_work S p at ≡ true
+      by a active true goes some =
+          active_works S p (arriving arrivals here.tick) here a active goes
+      by a active false goes some = beside (some_pending S p here) refl some
+
+      go : (o : Option Active) → here.active ≡ o → (b : Bool) → some_pending S p here ≡ b
+          → (is_active_at S p o || (b || list_any (is_work S p) here.jobs)) ≡ true
+          → has_work S p at ≡ true
+      go None active b pends some = beside b pends some
+      go (Some a) active b pends some =
+          by a active (goes_at S p a.routine) refl
+          (ap (λ q. goes_at S p a.routine || (q || list_any (is_work S p) here.jobs)) pends ∙ some)
 
 pub work_stays : WorkStays
 work_stays S mode arrivals p n proper going some = works S mode arrivals p n proper going some

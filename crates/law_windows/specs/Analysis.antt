@@ -1,6 +1,6 @@
 -- OSEK/VDX OS: interrupt processing, category 2. A bound of all windows of a level, by one
 -- inequality: whatever interrupts come that keep rules.
-use Rattle.std.specs.Prelude.{ℕ, ◌+◌, ◌-◌, ◌==◌, ◌<◌, ◌≤◌, if◌then◌else◌, min, List, [], ◌∷◌, length}
+use Rattle.std.specs.Prelude.{ℕ, ◌+◌, ◌-◌, ◌≡◌, ◌==◌, ◌<◌, ◌≤◌, if◌then◌else◌, min, true, List, [], ◌∷◌, length}
 use Rattle.osek_base.specs.declared.arrivals.Arrival.{Arrival}
 use Rattle.osek_base.specs.System.{System, priority_of}
 use Rattle.arrival_rules.specs.declared.rule.ArrivalRule.{ArrivalRule}
@@ -12,6 +12,7 @@ use Rattle.law_windows.specs.Coming.{Costs, ExpireAtMost, arrivals_in, came, cos
 use Rattle.law_windows.specs.Potential.{IsPotential}
 use Rattle.law_windows.specs.Responses.{RespondWithin}
 use Rattle.law_windows.specs.Losses.{KeepsApart, NoneIsLost}
+use Rattle.law_windows.specs.Work.{goes_at}
 
 -- ---- what comes
 
@@ -76,9 +77,11 @@ pub record IsBoundOf (S : System) (mode : ℕ) (rules : List ArrivalRule) (p mos
   pub responses : (arrivals : List Arrival) → KeepRules S rules arrivals
       → RespondWithin S mode arrivals p most
   pub tasks : (k : ℕ) → p ≤ priority_of S k → EndsWithin S mode rules most k
-  -- no interrupt is lost of a routine whose interrupts a rule keeps as many ticks apart, or more
+  -- no interrupt is lost of a routine of the level whose interrupts a rule keeps as many ticks
+  -- apart, or more
   pub losses : (arrivals : List Arrival) (n : ℕ) → KeepRules S rules arrivals
-      → (rule_at rules n).routine < length S.routines → KeepsApart (rule_at rules n) most
+      → (rule_at rules n).routine < length S.routines
+      → goes_at S p (rule_at rules n).routine ≡ true → KeepsApart (rule_at rules n) most
       → NoneIsLost S mode arrivals (rule_at rules n).routine
 
 -- the law: where what is counted holds in each such run, as many ticks as are enough are a bound

@@ -8,6 +8,7 @@ use Rattle.arrival_rules.specs.declared.rule.ArrivalRule.{ArrivalRule}
 use Rattle.law_future.specs.Shown.{arrives}
 use Rattle.arrival_rules.specs.Rules.{KeepRules, rule_at}
 use Rattle.law_windows.specs.Responses.{RespondWithin}
+use Rattle.law_windows.specs.Work.{goes_at}
 
 -- no interrupt of a routine arrives while one is pending
 abbrev pub NoneIsLost : System → ℕ → List Arrival → ℕ → Type 0
@@ -21,11 +22,12 @@ NoneIsLost S mode arrivals i =
 abbrev pub KeepsApart : ArrivalRule → ℕ → Type 0
 KeepsApart rule ticks = ticks + rule.slack ≤ rule.period + 1
 
--- where routines start before so many ticks have passed, and a rule keeps interrupts of its routine
--- as many apart
+-- where routines of a level start before so many ticks have passed, and a rule keeps interrupts of
+-- one of them as many apart
 abbrev pub SoonStartedAreNotLost : Type 0
 SoonStartedAreNotLost =
     (S : System) (mode : ℕ) (rules : List ArrivalRule) (arrivals : List Arrival) (p most n : ℕ)
     → KeepRules S rules arrivals → RespondWithin S mode arrivals p most
-    → (rule_at rules n).routine < length S.routines → KeepsApart (rule_at rules n) most
+    → (rule_at rules n).routine < length S.routines
+    → goes_at S p (rule_at rules n).routine ≡ true → KeepsApart (rule_at rules n) most
     → NoneIsLost S mode arrivals (rule_at rules n).routine
