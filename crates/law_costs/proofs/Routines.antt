@@ -1,7 +1,7 @@
 -- An instruction of a routine takes one, by what it leaves of the routine and what it starts.
-use Rattle.std.proofs.Common.{ℕ, ◌≡◌, ◌≤◌, ◌+◌, Bool, false, cond, [], ◌∷◌, refl, sym, ◌∙◌, ap, arith}
+use Rattle.std.proofs.Common.{ℕ, ◌≡◌, ◌≤◌, ◌+◌, false, cond, [], ◌∷◌, refl, sym, ◌∙◌, ap, arith}
 use Rattle.std.specs.Prelude.{IfSome, Option, Some, None, is_some}
-use Rattle.std.specs.List.{list_any, sum_by}
+use Rattle.std.specs.List.{sum_by}
 use Rattle.osek_base.specs.declared.ids.Owner.{Owner}
 use Rattle.osek_base.specs.declared.instr.Control.{Control}
 use Rattle.osek_base.specs.declared.instr.Instr.{Instr}
@@ -19,7 +19,7 @@ use Rattle.law_alarms.specs.Setting.{call_in}
 use Rattle.law_runs.proofs.Known.{all_passed, passed}
 use Rattle.law_runs.proofs.Lists.{all_any, clash, some_inside}
 use Rattle.law_runs.proofs.RankedTick.{IsRunState}
-use Rattle.law_windows.specs.Work.{goes_at, is_active_at, some_pending}
+use Rattle.law_windows.specs.Work.{goes_at, some_pending}
 use Rattle.law_costs.specs.Left.{Weights, counts, left, left_of_active, left_of_job, left_of_jobs, on, switch_for, switch_of}
 use Rattle.law_costs.specs.Paying.{start_of}
 use Rattle.law_costs.specs.Routines.{RoutinePaysIn, TakesIn, started_by, started_where}
