@@ -1,6 +1,6 @@
 -- Costs of nodes pay for the instructions of jobs that are at them.
 use Rattle.std.proofs.Common.{◌≡◌, ℕ, ◌+◌, ◌≤◌, ◌<◌, Bool, true, false, cond, not, ◌&&◌, ◌||◌, nat_le, List, refl, sym, ◌∙◌, ap, subst, arith}
-use Rattle.std.specs.Prelude.{Option, Some, None, IfSome, is_some, slice_index}
+use Rattle.std.specs.Prelude.{Option, Some, None, is_some, slice_index}
 use Rattle.std.specs.List.{AllByRecursion, list_all}
 use Rattle.std.proofs.lemmas.Bool.{and_parts, leb-true, lt-leb, not-true}
 use Rattle.osek_base.specs.declared.ids.Owner.{Owner}
@@ -9,7 +9,6 @@ use Rattle.osek_base.specs.Priority.{dynamic_priority}
 use Rattle.osek_base.specs.Service.{JobCalls}
 use Rattle.osek_base.specs.State.{Job, JobId, State, job_of, same_id, waits}
 use Rattle.osek_base.specs.System.{System, instruction_at, priority_of}
-use Rattle.law_alarms.specs.Setting.{call_by}
 use Rattle.law_runs.proofs.Known.{IsCaller, IsRunningCaller, executor_calls}
 use Rattle.law_runs.proofs.Foremost.{same_ids}
 use Rattle.law_runs.proofs.Lists.{all_any, all_weaker, clash, found, none_some, some_inside}
