@@ -1,13 +1,14 @@
 -- A routine that is active, with the switch that it finds, from tick to tick.
 use Rattle.std.proofs.Common.{◌≡◌, ℕ, suc, ◌≤◌, Bool, true, false, cond, not, ◌&&◌, List, [], ◌∷◌, refl, sym, ◌∙◌, ap, subst}
-use Rattle.std.specs.Prelude.{Option, Some, None, is_some}
+use Rattle.std.specs.Prelude.{IfSome, Option, Some, None, is_some}
 use Rattle.osek_base.specs.declared.arrivals.Arrival.{Arrival}
+use Rattle.osek_base.specs.declared.ids.Owner.{Owner}
 use Rattle.osek_base.specs.Alarm.{alarms_advanced, due_alarms}
 use Rattle.osek_base.specs.Proper.{IsProper}
 use Rattle.osek_base.specs.Reschedule.{reschedule}
 use Rattle.osek_base.specs.Service.{RoutineCalls, unasked_service}
 use Rattle.osek_base.specs.State.{Active, State, interrupts_off}
-use Rattle.osek_base.specs.System.{System}
+use Rattle.osek_base.specs.System.{System, instruction_at}
 use Rattle.osek_base.specs.Tick.{alarm_acts, alarm_phase, alarms_act, arrival_phase, before_execution, caller_of, execute_phase, last_phase, routine_choice, routine_started, start_phase, tick}
 use Rattle.osek_base.specs.Trace.{arriving, run}
 use Rattle.law_runs.proofs.Lists.{clash}
@@ -17,6 +18,7 @@ use Rattle.law_windows.proofs.Before.{active_alarms, active_reschedule}
 use Rattle.law_costs.specs.Known.{Executes, at_instruction, behind_by}
 use Rattle.law_costs.specs.Left.{Switch, switch_of}
 use Rattle.law_costs.proofs.InTicks.{at_form, at_is, executed_is, executing, goes_on}
+use Rattle.law_costs.proofs.Routines.{same_routine}
 use Rattle.law_analysis.specs.Lengths.{IsActiveAs, Lasts}
 
 -- a routine is active, as it stands and with that switch
@@ -140,15 +142,16 @@ module _ (S : System) (mode : ℕ) (arrivals : List Arrival) (proper : IsProper 
   -- ---- one that goes on
 
   -- it is active behind a tick, and at the instruction of the next, and lasts so long from there
-  pub record GoesOn (n count : ℕ) : Type 0 where
+  pub record GoesOn (n count : ℕ) (a : Active) : Type 0 where
     pub routine : Active
+    pub same : routine.routine ≡ a.routine
     pub switch : Switch
     pub behind : (here n).active ≡ Some routine
     pub runs : Runs switch routine (at n)
     pub lasts : Lasts S count switch routine
 
   pub goes_further : (n count : ℕ) (w : Switch) (a : Active) → (here (suc n)).over ≡ false
-      → Runs w a (at n) → Lasts S (suc count) w a → 1 ≤ count → GoesOn (suc n) count
+      → Runs w a (at n) → Lasts S (suc count) w a → 1 ≤ count → GoesOn (suc n) count a
   goes_further n count w a later runs lasts some =
       go (behind_by S (RoutineCalls a) (at n)).active refl
       (lasts (at n) (routine_executes n a later runs.active) runs.finds some)
@@ -157,13 +160,17 @@ module _ (S : System) (mode : ℕ) (arrivals : List Arrival) (proper : IsProper 
       v = switch_of (behind_by S (RoutineCalls a) (at n))
 
       go : (o : Option Active) → (behind_by S (RoutineCalls a) (at n)).active ≡ o
-          → IsActiveAs o (Lasts S count v) → GoesOn (suc n) count
+          → IsActiveAs o (Lasts S count v) → GoesOn (suc n) count a
       go None is still = absurd still
       go (Some b) is still =
           let behind : Runs v b (here (suc n)) =
           active_behind n a b (going_before S mode arrivals n later) runs.active is in
           record {
             routine = b;
+            same =
+                subst (λ o. IfSome o (λ d. d.routine ≡ a.routine)) is
+                (same_routine S (at n) a runs.active (Owner.Routine a.routine) a.context
+                (instruction_at S (Owner.Routine a.routine) a.context.place));
             switch = v;
             behind = behind.active;
             runs =

@@ -1,6 +1,6 @@
 -- A routine that is pending starts as many ticks earlier as it executes instructions.
-use Rattle.std.proofs.Common.{◌≡◌, ◌⊎◌, inl, inr, ℕ, zero, suc, ◌+◌, ◌<◌, ◌≤◌, Bool, true, false, cond, ◌||◌, List, [], ◌∷◌, set, refl, sym, ◌∙◌, ap, subst, arith}
-use Rattle.std.specs.Prelude.{Option, Some, None, is_some, slice_index_or}
+use Rattle.std.proofs.Common.{◌≡◌, ◌⊎◌, inl, inr, ℕ, zero, suc, ◌+◌, ◌<◌, ◌≤◌, Bool, true, false, cond, ◌||◌, List, length, refl, sym, ◌∙◌, ap, subst, arith}
+use Rattle.std.specs.Prelude.{Option, Some, None, slice_index_or}
 use Rattle.std.specs.List.{list_any}
 use Rattle.std.proofs.lemmas.Bool.{cases_eq, cases_lt}
 use Rattle.std.proofs.lemmas.List.{get_or-set_other}
@@ -9,19 +9,19 @@ use Rattle.osek_base.specs.Proper.{IsProper}
 use Rattle.osek_base.specs.Reschedule.{reschedule}
 use Rattle.osek_base.specs.State.{Active, State, may_dispatch}
 use Rattle.osek_base.specs.System.{System}
-use Rattle.osek_base.specs.Tick.{alarm_phase, arrival_phase, flagged, is_pending, routine_choice, routine_started, start_phase, tick, with_start_of}
+use Rattle.osek_base.specs.Tick.{alarm_phase, arrival_phase, is_pending, routine_choice, routine_started, start_phase, tick, with_start_of}
 use Rattle.osek_base.specs.Trace.{arriving, run}
 use Rattle.arrival_rules.specs.declared.rule.ArrivalRule.{ArrivalRule}
 use Rattle.arrival_rules.specs.Rules.{KeepRules}
 use Rattle.law_windows.specs.Analysis.{IsBoundOf}
 use Rattle.law_windows.specs.Responses.{PendsBehind}
 use Rattle.law_windows.specs.Routines.{begun}
-use Rattle.law_windows.specs.Work.{has_work, has_work_after, is_busy, is_work}
+use Rattle.law_windows.specs.Work.{goes_at, has_work, has_work_after, is_active_at, is_busy, is_work, some_pending}
 use Rattle.law_windows.proofs.Before.{pending_alarms, pending_reschedule}
 use Rattle.law_windows.proofs.Begins.{busy_ticks_lie_in_windows}
 use Rattle.law_windows.proofs.Responses.{same_flags}
 use Rattle.law_windows.proofs.Short.{going_early}
-use Rattle.law_windows.proofs.Working.{one_pends, pending_is_work, pending_works}
+use Rattle.law_windows.proofs.Working.{Pends, pending_is_work, pending_works, stays_flagged}
 use Rattle.law_costs.specs.Known.{at_instruction}
 use Rattle.law_costs.specs.Left.{Switch, on, switch_of}
 use Rattle.law_costs.proofs.Switches.{dispatching}
@@ -37,20 +37,6 @@ use Rattle.law_analysis.proofs.Ending.{goes_on}
 
 abbrev flag : List Bool → ℕ → Bool
 flag flags i = slice_index_or flags i false
-
-stays_raised : (flags : List Bool) (r i : ℕ) → flag flags i ≡ true
-    → flag (set flags r true) i ≡ true
-stays_raised [] r i up = up
-stays_raised (b ∷ flags) zero zero up = refl
-stays_raised (b ∷ flags) zero (suc i) up = up
-stays_raised (b ∷ flags) (suc r) zero up = up
-stays_raised (b ∷ flags) (suc r) (suc i) up = stays_raised flags r i up
-
-stays_flagged : (arrived : List ℕ) (flags : List Bool) (i : ℕ) → flag flags i ≡ true
-    → flag (flagged arrived flags) i ≡ true
-stays_flagged [] flags i up = up
-stays_flagged (r ∷ arrived) flags i up =
-    stays_flagged arrived (set flags r true) i (stays_raised flags r i up)
 
 -- ---- a start
 
@@ -95,12 +81,14 @@ module _ (S : System) (i : ℕ) where
 -- ---- rows of busy ticks
 
 active_is_work : (S : System) (p : ℕ) (s : State) (a : Active) → s.active ≡ Some a
-    → has_work S p s ≡ true
-active_is_work S p s a is =
-    ap (λ o. is_some o || (list_any (λ b. b) s.pending || list_any (is_work S p) s.jobs)) is
+    → goes_at S p a.routine ≡ true → has_work S p s ≡ true
+active_is_work S p s a is goes =
+    ap (λ o. is_active_at S p o || (some_pending S p s || list_any (is_work S p) s.jobs)) is
+    ∙ ap (λ b. b || (some_pending S p s || list_any (is_work S p) s.jobs)) goes
 
 module _ (S : System) (mode : ℕ) (rules : List ArrivalRule) (table : Table) (p most i count : ℕ)
     (proper : IsProper S) (closed : is_closed S table ≡ true) (none : may_end S table ≡ false)
+    (known : i < length S.routines) (level : goes_at S p i ≡ true)
     (bound : IsBoundOf S mode rules p most) (long : Lasts S count on (begun i))
     (arrivals : List Arrival) (keep : KeepRules S rules arrivals) (since : ℕ) where
   abbrev here : ℕ → State
@@ -153,38 +141,43 @@ module _ (S : System) (mode : ℕ) (rules : List ArrivalRule) (table : Table) (p
 
   -- ---- while the routine is active
 
-  active_within : (left n : ℕ) (w : Switch) (a : Active) → AreBusy n → Runs w a (at n)
-      → Lasts S left w a → n + left ≤ since + most
-  active_within zero n w a row runs lasts = let low = within n row in omega (arith, low)
-  active_within (suc zero) n w a row runs lasts = let low = within n row in omega (arith, low)
-  active_within (suc (suc left)) n w a row runs lasts =
+  active_within : (left n : ℕ) (w : Switch) (a : Active) → a.routine ≡ i → AreBusy n
+      → Runs w a (at n) → Lasts S left w a → n + left ≤ since + most
+  active_within zero n w a own row runs lasts = let low = within n row in omega (arith, low)
+  active_within (suc zero) n w a own row runs lasts = let low = within n row in omega (arith, low)
+  active_within (suc (suc left)) n w a own row runs lasts =
       let next =
       goes_further S mode arrivals proper n (suc left) w a (further n row.going) runs lasts
       (omega arith) in
+      let same : next.routine.routine ≡ i = next.same ∙ own in
+      let goes : goes_at S p next.routine.routine ≡ true = ap (goes_at S p) same ∙ level in
       let rest =
-      active_within (suc left) (suc n) next.switch next.routine
-      (one_more n row (active_is_work S p (at (suc n)) next.routine next.runs.active)
-      (active_is_work S p (here (suc n)) next.routine next.behind))
+      active_within (suc left) (suc n) next.switch next.routine same
+      (one_more n row (active_is_work S p (at (suc n)) next.routine next.runs.active goes)
+      (active_is_work S p (here (suc n)) next.routine next.behind goes))
       next.runs next.lasts in
       omega (arith, rest)
 
   -- ---- while it is pending
 
-  abbrev Pends : ℕ → Type 0
-  Pends n = PendsBehind S mode arrivals i since n
+  abbrev PendsSince : ℕ → Type 0
+  PendsSince n = PendsBehind S mode arrivals i since n
+
+  pend : (s : State) → is_pending s i ≡ true → Pends S p s i
+  pend s up = record { known = known; goes = level; pends = up }
 
   busy_at : (t : ℕ) → Going t → is_pending (here (suc t)) i ≡ true
       → is_busy S mode arrivals p t ≡ true
   busy_at t going up =
-      pending_is_work S p (at t)
-      (one_pends (at t) i
+      pending_is_work S p (at t) i
+      (pend (at t)
       (sym (ap (λ flags. flag flags i) (same_flags S mode arrivals t going)) ∙ up))
 
   busy_next : (t : ℕ) → is_pending (here t) i ≡ true → is_busy S mode arrivals p t ≡ true
   busy_next t up =
-      pending_works S p (arriving arrivals (here t).tick) (here t) (one_pends (here t) i up)
+      pending_works S p (arriving arrivals (here t).tick) (here t) i (pend (here t) up)
 
-  pending_busy : (n : ℕ) → Going (suc n) → since ≤ n → Pends n → AreBusy (suc n)
+  pending_busy : (n : ℕ) → Going (suc n) → since ≤ n → PendsSince n → AreBusy (suc n)
   pending_busy n going order pends = record {
     order = omega (arith, order);
     going = going;
@@ -202,18 +195,18 @@ module _ (S : System) (mode : ℕ) (rules : List ArrivalRule) (table : Table) (p
       stands : (t : ℕ) → since < t → t ≤ suc n → has_work_after S mode arrivals p t ≡ true
       stands zero low high = absurd (omega (arith, low))
       stands (suc t) low high =
-          pending_is_work S p (here (suc t))
-          (one_pends (here (suc t)) i (pends t (omega (arith, low)) (omega (arith, high))))
+          pending_is_work S p (here (suc t)) i
+          (pend (here (suc t)) (pends t (omega (arith, low)) (omega (arith, high))))
 
   -- its routine starts in the next tick, or it is pending behind that too
-  next_tick : (n : ℕ) → Going (suc n) → since ≤ n → Pends n
-      → Runs on (begun i) (at (suc n)) ⊎ Pends (suc n)
+  next_tick : (n : ℕ) → Going (suc n) → since ≤ n → PendsSince n
+      → Runs on (begun i) (at (suc n)) ⊎ PendsSince (suc n)
   next_tick n going order pends =
       go
       (tick_starts S i (arriving arrivals (here (suc n)).tick) (here (suc n))
       (pends n order (omega arith)))
     where
-      go : StartsOrPends i (at (suc n)) → Runs on (begun i) (at (suc n)) ⊎ Pends (suc n)
+      go : StartsOrPends i (at (suc n)) → Runs on (begun i) (at (suc n)) ⊎ PendsSince (suc n)
       go (inl starts) = inl starts
       go (inr up) = inr (λ t low high. elim (cases_lt n t) [
         | inl last ↦
@@ -224,14 +217,15 @@ module _ (S : System) (mode : ℕ) (rules : List ArrivalRule) (table : Table) (p
       ])
 
   -- it can't be for long, so its routine starts, and all its instructions are in the window
-  starts_within : (left n : ℕ) → Going (suc n) → since ≤ n → Pends n
+  starts_within : (left n : ℕ) → Going (suc n) → since ≤ n → PendsSince n
       → since + most ≤ suc n + left → suc n + count ≤ since + most
   starts_within zero n going order pends none_left =
       let soon = within (suc n) (pending_busy n going order pends) in
       absurd (omega (arith, soon, none_left))
   starts_within (suc left) n going order pends some_left = elim (next_tick n going order pends) [
     | inl starts ↦
-        active_within count (suc n) on (begun i) (pending_busy n going order pends) starts long
+        active_within count (suc n) on (begun i) refl (pending_busy n going order pends) starts
+        long
     | inr later ↦
         let rest =
         starts_within left (suc n) (further (suc n) going) (omega (arith, order)) later
@@ -240,9 +234,9 @@ module _ (S : System) (mode : ℕ) (rules : List ArrivalRule) (table : Table) (p
   ]
 
 pub long_routines_start_early : LongRoutinesStartEarly
-long_routines_start_early S mode rules table p most i count proper closed none bound long arrivals n
-    since keep going order pends =
+long_routines_start_early S mode rules table p most i count proper closed none known level bound long
+    arrivals n since keep going order pends =
     let soon =
-    starts_within S mode rules table p most i count proper closed none bound long arrivals keep
-    since most n going order pends (omega (arith, order)) in
+    starts_within S mode rules table p most i count proper closed none known level bound long
+    arrivals keep since most n going order pends (omega (arith, order)) in
     omega (arith, soon, order)

@@ -1,8 +1,7 @@
 -- A routine whose program comes to a place once: behind each instruction it has gone on, towards
 -- that place or behind it; and only there may it activate the task.
-use Rattle.std.proofs.Common.{ℕ, zero, suc, ◌≡◌, ◌<◌, ◌+◌, inl, inr, Bool, true, false, cond, not, ◌&&◌, ◌||◌, List, [], ◌∷◌, length, refl, sym, ◌∙◌, ap, subst, arith}
+use Rattle.std.proofs.Common.{ℕ, ◌≡◌, ◌<◌, ◌+◌, inl, inr, Bool, true, false, cond, not, ◌&&◌, ◌||◌, List, [], length, refl, sym, ◌∙◌, ap, subst, arith}
 use Rattle.std.specs.Prelude.{Option, Some, None, IfSome, ◌==◌, nat_lt, min}
-use Rattle.std.specs.List.{AllByRecursion}
 use Rattle.std.specs.Option.{option_map}
 use Rattle.std.proofs.lemmas.Bool.{and_parts, cases_lt, not-true}
 use Rattle.std.proofs.lemmas.List.{get_or_past}
@@ -24,7 +23,7 @@ use Rattle.law_runs.proofs.FormedTick.{active_service}
 use Rattle.law_runs.proofs.Foremost.{equal}
 use Rattle.law_runs.proofs.Lists.{cond_both, none_some}
 use Rattle.seen_ticks.specs.Observed.{activates, is_number}
-use Rattle.law_jobs.proofs.Members.{all_back, all_front}
+use Rattle.law_windows.proofs.Working.{each_below}
 use Rattle.law_analysis.specs.RefusingByRoutine.{is_activated_at, is_once, leads_on}
 use Rattle.law_analysis.specs.Refusing.{leaves_task}
 use Rattle.law_analysis.proofs.RefusingAlarms.{all_tested}
@@ -32,16 +31,6 @@ use Rattle.law_analysis.proofs.RefusingPrograms.{left_at, made_by, other_made, t
 use Rattle.law_windows.proofs.Before.{active_reschedule}
 
 -- ---- programs
-
--- what holds of each number below one holds of a smaller one
-at_under : (P : ℕ → Type 0) (n r : ℕ) → AllByRecursion P (below n) → r < n → P r
-at_under P zero r all low = absurd (omega (arith, low))
-at_under P (suc n) r all low = elim (cases_lt r n) [
-  | inl less ↦ at_under P n r (all_front P (below n) (n ∷ []) all) less
-  | inr more ↦
-      let same : n ≡ r = omega (arith, low, more) in
-      subst P same (all_back P (below n) (n ∷ []) all).0
-]
 
 -- routine i at the place
 abbrev pub IsAtPlace : ℕ → ℕ → Caller → Type 0
@@ -52,7 +41,7 @@ IsAtPlace i place NobodyCalls = ⊥
 module _ (S : System) (i place k : ℕ) (once : is_activated_at S i place k ≡ true) where
   others : (r : ℕ) → r < length S.routines → (r == i || leaves_task k (routine S r).program) ≡ true
   others r low =
-      at_under (λ r. (r == i || leaves_task k (routine S r).program) ≡ true)
+      each_below (λ r. (r == i || leaves_task k (routine S r).program) ≡ true)
       (length S.routines) r
       (all_tested (λ r. r == i || leaves_task k (routine S r).program) (below (length S.routines))
       (and_parts _ _ (and_parts _ _ once).0).1) low
@@ -71,7 +60,7 @@ module _ (S : System) (i place k : ℕ) (once : is_activated_at S i place k ≡ 
   own_once : (q : ℕ) → is_once k place q (instruction_in program_of q) ≡ true
   own_once q = elim (cases_lt q (length program_of)) [
     | inl low ↦
-        at_under (λ q. is_once k place q (instruction_in program_of q) ≡ true)
+        each_below (λ q. is_once k place q (instruction_in program_of q) ≡ true)
         (length program_of) q
         (all_tested (λ q. is_once k place q (instruction_in program_of q))
         (below (length program_of)) (and_parts _ _ once).1) low
