@@ -10,6 +10,7 @@ use Rattle.osek_base.specs.Lists.{is_empty}
 use Rattle.osek_base.specs.System.{System, priority_of}
 use Rattle.law_runs.proofs.Lists.{clash, none_some, some_inside}
 use Rattle.law_windows.specs.Routines.{begun}
+use Rattle.law_windows.specs.Work.{goes_at}
 use Rattle.law_costs.specs.Left.{Weights, is_off, on}
 use Rattle.law_nodes.specs.Early.{bits, is_set, is_mask, sum_besides}
 use Rattle.law_nodes.specs.Nodes.{Node, Standing, covers, is_at, is_beside, of_job, of_routine, woken_node}
@@ -128,9 +129,9 @@ module _ (S : System) (g : Graph) (level : Level) (number : ℕ) (n m : Kept) (l
       (λ upper at.
       h upper (begins_of (node_by n) (of_job on (new_job (record { task = t; serial = 0 }))) refl at))
   fresh_paid (Owner.Routine i) h =
-      unless_true (is_at (node_by n) (of_routine on (begun i)))
+      unless_both (goes_at S level.priority i) (is_at (node_by n) (of_routine on (begun i)))
       (nat_le price (numbered level.arrivals.items i))
-      (λ at. h (begins_of (node_by n) (of_routine on (begun i)) refl at))
+      (λ goes at. h goes (begins_of (node_by n) (of_routine on (begun i)) refl at))
 
   woken_paid : (who : Owner) → IsWokenPaidBy who S g level (node_by n) l.woken
       → pays_woken who S level.priority (event_costs_of level)

@@ -16,7 +16,7 @@ use Rattle.law_analysis.specs.Refusing.{AcceptedActions, AlarmsRefuseNone, Never
 use Rattle.law_analysis.specs.RefusingByRoutine.{AreKeptApart, RoutinesRefuseNone}
 use Rattle.analysis_bounds.specs.declared.levels.TheConstants.{CAP}
 use Rattle.analysis_bounds.specs.Refusing.{AlarmIsSlow, AreAccepted, AreActionsAccepted, AreJobsShort, IsAccepted, IsActionAccepted, RefusalsAreTold, RoutineIsSlow}
-use Rattle.analysis_bounds.specs.Told.{AreKeptApart as HaveRule, IsResponse, IsSomeMost}
+use Rattle.analysis_bounds.specs.Told.{AreKeptApart as HaveRule, IsResponse}
 use Rattle.analysis_bounds.specs.Windows.{AreMosts}
 use Rattle.analysis_bounds.proofs.TellLemmas.{starts_before, there}
 
@@ -56,8 +56,7 @@ kept_apart rules i ticks (n, rule, stands, keeps) =
     }
 
 module _ (S : System) (mode : ℕ) (rules : List ArrivalRule) (peaks : Peaks) (mosts : List ℕ)
-    (latency : ℕ) (proper : IsProper S) (bounds : AreMosts S mode rules CAP mosts)
-    (is_most : IsSomeMost mosts latency) where
+    (proper : IsProper S) (bounds : AreMosts S mode rules CAP mosts) where
   -- jobs of a task end within the ticks of windows of its level
   ends_within : (k most : ℕ) → most < CAP → IsResponse S mosts k most
       → EndsWithin S mode rules most k
@@ -69,38 +68,40 @@ module _ (S : System) (mode : ℕ) (rules : List ArrivalRule) (peaks : Peaks) (m
 
   module _ (by_nobody : NobodyRefuses) (by_alarms : AlarmsRefuseNone)
       (by_routines : RoutinesRefuseNone) (by_actions : AcceptedActions) where
-    short_accepted : (k : ℕ) → k < length S.tasks → AreJobsShort S mode rules mosts latency k
+    short_accepted : (k : ℕ) → k < length S.tasks → AreJobsShort S mode rules mosts k
         → NeverRefused S mode rules k
     short_accepted k inside short = go short.slow
       where
         ends : EndsWithin S mode rules short.most k
         ends = ends_within k short.most short.low short.of_level
 
-        go : (AlarmIsSlow S mode k short.most ⊎ RoutineIsSlow S mode rules k latency short.most)
+        go : (AlarmIsSlow S mode k short.most ⊎ RoutineIsSlow S mode rules mosts k short.most)
             → NeverRefused S mode rules k
         go (inl slow) =
             (by_alarms S mode rules k slow.0 slow.2.time slow.2.cycle short.most proper inside
             short.basic slow.2.alone slow.2.apart ends).0
         go (inr slow) =
-            by_routines S mode rules k slow.which slow.at_place latency short.most proper inside short.basic
+            by_routines S mode rules k slow.which slow.at_place slow.latency short.most proper inside short.basic
             slow.inside slow.seldom.alone slow.some
-            (starts_before S mode rules peaks mosts bounds latency is_most slow.which slow.low)
-            (kept_apart rules slow.which (latency + slow.at_place + short.most) slow.seldom.apart)
+            (starts_before S mode rules peaks mosts bounds slow.which slow.latency slow.inside
+            slow.of_level slow.low)
+            (kept_apart rules slow.which (slow.latency + slow.at_place + short.most)
+            slow.seldom.apart)
             ends
 
-    accepted : (k : ℕ) → k < length S.tasks → IsAccepted S mode rules mosts latency k
+    accepted : (k : ℕ) → k < length S.tasks → IsAccepted S mode rules mosts k
         → NeverRefused S mode rules k
     accepted k inside (inl alone) = by_nobody S mode rules k alone.programs alone.alarms
     accepted k inside (inr short) = short_accepted k inside short
 
     module _
-        (known : AreAccepted S mode rules mosts latency peaks (length S.tasks))
+        (known : AreAccepted S mode rules mosts peaks (length S.tasks))
         (actions : AreActionsAccepted S peaks (length S.alarms)) where
       task_told : (k : ℕ) → k < length S.tasks
           → NeverRefused S mode rules k ⊎ (1 ≤ told peaks (figure Measure.Refusal k))
       task_told k inside = go (known k inside)
         where
-          go : (IsAccepted S mode rules mosts latency k
+          go : (IsAccepted S mode rules mosts k
               ⊎ (1 ≤ told peaks (figure Measure.Refusal k)))
               → NeverRefused S mode rules k ⊎ (1 ≤ told peaks (figure Measure.Refusal k))
           go (inl is) = inl (accepted k inside is)

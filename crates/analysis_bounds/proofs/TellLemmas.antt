@@ -18,6 +18,7 @@ use Rattle.search_peaks.specs.Peaks.{Peaks, told}
 use Rattle.law_bounds.specs.Ending.{EndsWithin}
 use Rattle.law_windows.specs.Analysis.{IsBoundOf}
 use Rattle.law_windows.specs.Losses.{KeepsApart, NoneIsLost}
+use Rattle.law_windows.specs.Work.{goes_at}
 use Rattle.law_nodes.specs.Nodes.{Node, Table, covers, is_beside, is_within, woken_node}
 use Rattle.law_nodes.specs.Services.{answers}
 use Rattle.law_nodes.specs.Values.{know_no_more}
@@ -68,32 +69,35 @@ module _ (S : System) (mode : ℕ) (rules : List ArrivalRule) (peaks : Peaks) (m
       let less = has.1 in
       omega (arith, soon, value, less))
 
-  -- ---- routines, by the least of all levels
+  -- ---- routines, by the least of their levels
 
-  module _ (most : ℕ) (is_most : IsSomeMost mosts most) where
-    pub starts_before : (i : ℕ) → most < CAP → StartsBefore S mode rules most i
-    starts_before i low =
+  module _ (i most : ℕ) (inside : i < length S.routines)
+      (is_most : IsSomeMost S mosts i most) where
+    pub starts_before : most < CAP → StartsBefore S mode rules most i
+    starts_before low =
         let is = is_most low in
         let bound = bounds is.0 is.1 (subst (λ n. n < CAP) (sym is.2) low) in
         λ arrivals n since keep over first pends.
-        (let soon = (bound.responses arrivals keep).routines n since i over first pends in
+        (let soon =
+        (bound.responses arrivals keep).routines n since i over inside is.3 first pends in
         let value = is.2 in
         omega (arith, soon, value))
 
-    pub loss_told : (i : ℕ) → i < length S.routines → LossIsTold peaks rules most i
+    pub loss_told : LossIsTold peaks rules most i
         → LosesNone S mode rules i ⊎ (1 ≤ told peaks (figure Measure.Loss i))
-    loss_told i inside (inl some) = inr some
-    loss_told i inside (inr (low, (n, rule, stands, (same, apart)))) =
+    loss_told (inl some) = inr some
+    loss_told (inr (low, (n, rule, stands, (same, apart)))) =
         inl
         (λ arrivals keep.
         subst (NoneIsLost S mode arrivals) (ap (λ (r : ArrivalRule). r.routine) at ∙ same)
         (bound.losses arrivals n keep
         (subst (λ k. k < length S.routines)
         (sym (ap (λ (r : ArrivalRule). r.routine) at ∙ same)) inside)
+        (ap (goes_at S is.0) (ap (λ (r : ArrivalRule). r.routine) at ∙ same) ∙ is.3)
         (subst (λ k. KeepsApart (rule_at rules n) k) (sym is.2)
         (subst (λ r. KeepsApart r most) (sym at) apart))))
       where
-        is : (p : ℕ) × (p < length mosts) × (numbered mosts p ≡ most)
+        is : (p : ℕ) × (p < length mosts) × (numbered mosts p ≡ most) × (goes_at S p i ≡ true)
         is = is_most low
 
         bound : IsBoundOf S mode rules is.0 (numbered mosts is.0)

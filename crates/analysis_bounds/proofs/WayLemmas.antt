@@ -8,6 +8,7 @@ use Rattle.osek_base.specs.declared.instr.Instr.{Instr}
 use Rattle.osek_base.specs.declared.status.Status.{Status}
 use Rattle.osek_base.specs.System.{System, instruction_at, priority_of}
 use Rattle.law_runs.proofs.Lists.{all_weaker, clash, none_some, some_inside}
+use Rattle.law_windows.specs.Work.{goes_at}
 use Rattle.law_costs.specs.Left.{Weights, is_off, of_all_alarms}
 use Rattle.law_costs.specs.Paying.{is_upper}
 use Rattle.law_nodes.specs.Early.{freed_early}
@@ -27,7 +28,7 @@ use Rattle.analysis_nodes.specs.Nodes.{node_by}
 use Rattle.analysis_nodes.specs.declared.outcome.Start.{Start}
 use Rattle.analysis_nodes.specs.Outcomes.{Outcome, cost_of_alarm, cost_of_start, outcomes, outcomes_by}
 use Rattle.analysis_bounds.specs.declared.level.Level.{Level}
-use Rattle.analysis_bounds.specs.Checks.{AreFitting, AreWithin, BeginsWithEnough, Fits, HasPrices, IsEnough, IsWithin, Pays, cost_of_way, freed_at, freed_on, freed_where, is_counted, is_lower, left_of, priced_at}
+use Rattle.analysis_bounds.specs.Checks.{AreFitting, AreWithin, BeginsWithEnough, Fits, HasPrices, IsEnough, IsWithin, Pays, beside, cost_of_way, freed_at, freed_on, freed_where, is_counted, is_lower, left_of, priced_at}
 use Rattle.analysis_bounds.specs.Levels.{event_costs_of, numbered, priced, weights_of}
 use Rattle.analysis_bounds.proofs.FreeLemmas.{Frees, all_free}
 
@@ -98,7 +99,7 @@ unless_true false x h = refl
 
 -- ---- as much more on both sides
 
-module _ (more over most room besides : ℕ) (more_is : over ≡ more + besides)
+module _ (more over most room besides : ℕ) (more_is : over ≤ more + besides)
     (most_is : room ≡ most + besides) where
   more_fits : (x : ℕ) → nat_le (x + more) most ≡ true → nat_le (x + over) room ≡ true
   more_fits x h =
@@ -196,7 +197,7 @@ module _ (S : System) (g : Graph) (level : Level) (has : HasPrices g level) wher
       same (record { by_next = fits.all_next; by_less = fits.all_less })
 
   fits_more : (n : Node) (numbers : List ℕ) (more over most room besides freed : ℕ)
-      → over ≡ more + besides → room ≡ most + besides
+      → over ≤ more + besides → room ≡ most + besides
       → FitsBy n numbers more most freed → FitsBy n numbers over room freed
   fits_more n numbers more over most room besides freed more_is most_is fits = record {
     by_next = λ place low m price there paid counts.
@@ -231,6 +232,17 @@ module _ (S : System) (g : Graph) (level : Level) (has : HasPrices g level) wher
       (let none = none_set start in
       omega (arith, none))
       begin (fits_by n w [] most 0 start same fits)
+
+  -- .. of a lower routine, whatever it starts, the section besides
+  fits_lower : (n : Node) (w : Way) (most : ℕ) (start : Start) → w.start ≡ start
+      → level.at_begin ≡ most + (c.of_section + of_all_alarms S c)
+      → Fits S g level n w [] most 0
+      → FitsBy n w.next.items (c.of_section + of_all_alarms S c) level.at_begin
+      (freed_where w.refusal 0)
+  fits_lower n w most start same begin fits =
+      fits_more n w.next.items (cost_of_way level [] start)
+      (c.of_section + of_all_alarms S c) most level.at_begin (c.of_section + of_all_alarms S c)
+      (freed_where w.refusal 0) (omega arith) begin (fits_by n w [] most 0 start same fits)
 
   section_left : (off high : Bool)
       → cond (off && high) 0 (cond off level.section 0)
@@ -353,7 +365,44 @@ module _ (S : System) (g : Graph) (level : Level) (has : HasPrices g level) wher
             job_fits_by t n (λ m. 0) w.next.items lower level.at_begin
             (freed_where w.refusal 0) o.next is way.next_covered
             (none_free (freed_where w.refusal 0) (freed_zero w.refusal 0 refl) o.next)
-            (fits_besides n w room.0 o.start way.same_start room.1 (room.2 place low w there))
+            (fits_besides n w room.0 o.start way.same_start
+            (room.1 ∙ ap (λ who. room.0 + beside who S c) is) (room.2 place low w there))
+
+    routine_pays : (i : ℕ) → n.owner ≡ Owner.Routine i → (place : ℕ) → place < length ways
+        → (w : Way) → slice_get ways place ≡ Some w → (o : Outcome) → IsWay (table_of g) w o
+        → Passes (Owner.Routine i) o
+    routine_pays i is place low w there o way =
+        and_from (routine_fits prices own price o.next)
+        (goes_at S p i || routine_fits prices lower level.at_begin o.next) takes
+        (or_lower (goes_at S p i) refl)
+      where
+        own : ℕ
+        own = cost_of_start c o.start + (cost_of_alarm c.of_alarm o.start + 1)
+
+        lower : ℕ
+        lower = c.of_section + of_all_alarms S c
+
+        takes : routine_fits prices own price o.next ≡ true
+        takes =
+            let room = enough (ap (λ who. is_counted who S p n) is) in
+            subst (λ cost. routine_fits prices own cost o.next ≡ true) (sym room.1)
+            (routine_fits_by i n w.next.items own (suc room.0)
+            (freed_where w.refusal (freed_at S level n)) o.next is
+            (freed_zero w.refusal (freed_at S level n)
+            (ap (λ who. freed_on who S level what n.used) is))
+            way.next_covered
+            (fits_one n w room.0 (freed_at S level n) o.start way.same_start
+            (room.2 place low w there)))
+
+        or_lower : (b : Bool) → goes_at S p i ≡ b
+            → (b || routine_fits prices lower level.at_begin o.next) ≡ true
+        or_lower true goes = refl
+        or_lower false goes =
+            let room = begins (ap (is_lower S p) is ∙ ap not goes) in
+            routine_fits_by i n w.next.items lower level.at_begin (freed_where w.refusal 0) o.next
+            is (freed_zero w.refusal 0 refl) way.next_covered
+            (fits_lower n w room.0 o.start way.same_start
+            (room.1 ∙ ap (λ who. room.0 + beside who S c) is) (room.2 place low w there))
 
     way_pays : (who : Owner) → n.owner ≡ who → (place : ℕ) → place < length ways → (w : Way)
         → slice_get ways place ≡ Some w → (o : Outcome) → IsWay (table_of g) w o
@@ -361,16 +410,7 @@ module _ (S : System) (g : Graph) (level : Level) (has : HasPrices g level) wher
     way_pays (Owner.Task t) is place low w there o way free =
         job_pays t is place low w there o way free
     way_pays (Owner.Routine i) is place low w there o way free =
-        let room = enough (ap (λ who. is_counted who S p n) is) in
-        let own = cost_of_start c o.start + (cost_of_alarm c.of_alarm o.start + 1) in
-        let freed = freed_where w.refusal (freed_at S level n) in
-        subst (λ cost. routine_fits prices own cost o.next ≡ true) (sym room.1)
-        (routine_fits_by i n w.next.items own (suc room.0) freed o.next is
-        (freed_zero w.refusal (freed_at S level n)
-        (ap (λ who. freed_on who S level what n.used) is))
-        way.next_covered
-        (fits_one n w room.0 (freed_at S level n) o.start way.same_start
-        (room.2 place low w there)))
+        routine_pays i is place low w there o way
 
   -- ---- all ways of a node
 

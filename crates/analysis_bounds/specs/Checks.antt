@@ -7,6 +7,7 @@ use Rattle.osek_base.specs.declared.status.Status.{Status}
 use Rattle.osek_base.specs.Lists.{is_empty}
 use Rattle.osek_base.specs.System.{System, alarm, instruction_at}
 use Rattle.osek_base.specs.Tick.{action_call}
+use Rattle.law_windows.specs.Work.{goes_at}
 use Rattle.law_costs.specs.Left.{Weights, is_off, of_all_alarms}
 use Rattle.law_costs.specs.Paying.{is_upper, start_of}
 use Rattle.law_nodes.specs.Early.{awaited, bits, holds_events, is_mask, is_set, least_in, sum_besides}
@@ -30,10 +31,16 @@ abbrev pub is_counted : Owner → System → ℕ → Node → Bool
 is_counted (Owner.Task t) S p n = may_count S p n
 is_counted (Owner.Routine i) S p n = true
 
--- whether it is a job of a task below the level
+-- whether it is a job of a task below the level, or a routine
 abbrev pub is_lower : System → ℕ → Owner → Bool
 is_lower S p (Owner.Task t) = not (is_upper S p t)
-is_lower S p (Owner.Routine i) = false
+is_lower S p (Owner.Routine i) = not (goes_at S p i)
+
+-- what may be left besides of it where a window begins: all alarms, and where a routine is below the
+-- level, so that no job is of it, the section too
+abbrev pub beside : Owner → System → Weights → ℕ
+beside (Owner.Task t) S c = of_all_alarms S c
+beside (Owner.Routine i) S c = c.of_section + of_all_alarms S c
 
 -- whether a dispatch may begin a section behind the instruction at a node: interrupts are off there
 -- for a job, and it need not count behind that
@@ -123,23 +130,24 @@ IsEnough S g level n ways price =
     → (most : ℕ) × (price ≡ suc most)
     × AreFitting S g level n ways level.alarms.items most (freed_at S level n) (length ways)
 
--- of a task below the level no more is left than may be where a window begins, besides all alarms:
--- one that it sets is among them
+-- of a task or routine below the level no more is left than may be where a window begins, besides
+-- all alarms: one that it sets is among them
 abbrev pub BeginsWithEnough : System → Graph → Level → Node → List Way → Type 0
 BeginsWithEnough S g level n ways =
     is_lower S level.priority n.owner ≡ true
-    → (most : ℕ) × (level.at_begin ≡ most + of_all_alarms S (weights_of level))
+    → (most : ℕ) × (level.at_begin ≡ most + beside n.owner S (weights_of level))
     × AreFitting S g level n ways [] most 0 (length ways)
 
 -- ---- what begins
 
--- an activation pays for who begins at a node, and an interrupt
+-- an activation pays for who begins at a node of the level, and an interrupt
 abbrev pub IsFreshPaidBy : Owner → System → Level → Node → ℕ → Type 0
 IsFreshPaidBy (Owner.Task t) S level n price =
     is_upper S level.priority t ≡ true → begins n ≡ true
     → nat_le price (numbered level.tasks.items t) ≡ true
 IsFreshPaidBy (Owner.Routine i) S level n price =
-    begins n ≡ true → nat_le price (numbered level.arrivals.items i) ≡ true
+    goes_at S level.priority i ≡ true → begins n ≡ true
+    → nat_le price (numbered level.arrivals.items i) ≡ true
 
 abbrev pub IsFreshPaid : System → Level → Node → ℕ → Type 0
 IsFreshPaid S level n price = IsFreshPaidBy n.owner S level n price

@@ -9,7 +9,7 @@ use Rattle.search_peaks.specs.Peaks.{Peaks, told}
 use Rattle.law_analysis.specs.Refusing.{AreSoFarApart, IsOfAlarm, NeverRefused, NeverRefusedBy, alarm_activates, is_activated_by_none, no_alarm_activates}
 use Rattle.law_analysis.specs.RefusingByRoutine.{IsOfRoutine}
 use Rattle.analysis_bounds.specs.declared.levels.TheConstants.{CAP}
-use Rattle.analysis_bounds.specs.Told.{AreKeptApart, IsResponse}
+use Rattle.analysis_bounds.specs.Told.{AreKeptApart, IsResponse, IsSomeMost}
 
 -- ---- who activates a task
 
@@ -36,13 +36,15 @@ abbrev pub AlarmIsSlow : System → ℕ → ℕ → ℕ → Type 0
 AlarmIsSlow S mode k most =
     (a : ℕ) × (a < length S.alarms) × IsLeftToAlarm S mode k a most
 
--- or of the routines, each of which starts before some ticks have passed
-pub record RoutineIsSlow (S : System) (mode : ℕ) (rules : List ArrivalRule) (k latency most : ℕ)
-    : Type 0 where
-  pub some : 1 ≤ latency
-  pub low : latency < CAP
+-- or of the routines, which starts before some ticks have passed
+pub record RoutineIsSlow (S : System) (mode : ℕ) (rules : List ArrivalRule) (mosts : List ℕ)
+    (k most : ℕ) : Type 0 where
   pub which : ℕ
   pub inside : which < length S.routines
+  pub latency : ℕ
+  pub some : 1 ≤ latency
+  pub low : latency < CAP
+  pub of_level : IsSomeMost S mosts which latency
   pub at_place : ℕ
   pub seldom : IsLeftToRoutine S mode rules k which at_place (latency + at_place + most)
 
@@ -50,27 +52,26 @@ pub record RoutineIsSlow (S : System) (mode : ℕ) (rules : List ArrivalRule) (k
 
 -- its jobs never wait, and each has ended before the next one is made
 pub record AreJobsShort (S : System) (mode : ℕ) (rules : List ArrivalRule) (mosts : List ℕ)
-    (latency k : ℕ) : Type 0 where
+    (k : ℕ) : Type 0 where
   pub basic : is_extended S k ≡ false
   pub most : ℕ
   pub low : most < CAP
   pub of_level : IsResponse S mosts k most
-  pub slow : AlarmIsSlow S mode k most ⊎ RoutineIsSlow S mode rules k latency most
+  pub slow : AlarmIsSlow S mode k most ⊎ RoutineIsSlow S mode rules mosts k most
 
 -- what code knows where no activation is refused
-abbrev pub IsAccepted : System → ℕ → List ArrivalRule → List ℕ → ℕ → ℕ → Type 0
-IsAccepted S mode rules mosts latency k =
-    IsLeftAlone S k ⊎ AreJobsShort S mode rules mosts latency k
+abbrev pub IsAccepted : System → ℕ → List ArrivalRule → List ℕ → ℕ → Type 0
+IsAccepted S mode rules mosts k = IsLeftAlone S k ⊎ AreJobsShort S mode rules mosts k
 
 -- .. or a refusal is told
-abbrev pub IsKnown : System → ℕ → List ArrivalRule → List ℕ → ℕ → Peaks → ℕ → Type 0
-IsKnown S mode rules mosts latency peaks k =
-    IsAccepted S mode rules mosts latency k ⊎ (1 ≤ told peaks (figure Measure.Refusal k))
+abbrev pub IsKnown : System → ℕ → List ArrivalRule → List ℕ → Peaks → ℕ → Type 0
+IsKnown S mode rules mosts peaks k =
+    IsAccepted S mode rules mosts k ⊎ (1 ≤ told peaks (figure Measure.Refusal k))
 
 -- .. of the first tasks
-abbrev pub AreAccepted : System → ℕ → List ArrivalRule → List ℕ → ℕ → Peaks → ℕ → Type 0
-AreAccepted S mode rules mosts latency peaks count =
-    (k : ℕ) → k < count → IsKnown S mode rules mosts latency peaks k
+abbrev pub AreAccepted : System → ℕ → List ArrivalRule → List ℕ → Peaks → ℕ → Type 0
+AreAccepted S mode rules mosts peaks count =
+    (k : ℕ) → k < count → IsKnown S mode rules mosts peaks k
 
 -- ---- alarms
 

@@ -10,6 +10,7 @@ use Rattle.view_measures.specs.declared.measure.Measure.{Measure}
 use Rattle.view_measures.specs.Measures.{figure}
 use Rattle.search_peaks.specs.Peaks.{Peaks, told}
 use Rattle.law_windows.specs.Losses.{KeepsApart}
+use Rattle.law_windows.specs.Work.{goes_at}
 use Rattle.law_nodes.specs.Nodes.{Node}
 use Rattle.law_analysis.specs.Told.{IsRefusalTold, is_shutdown}
 use Rattle.analysis_nodes.specs.declared.graph.Graph.{Graph}
@@ -79,10 +80,11 @@ NoneEnds S g count =
 
 -- ---- routines
 
--- below the cap it is that of a priority
-abbrev pub IsSomeMost : List ℕ → ℕ → Type 0
-IsSomeMost mosts most =
-    most < CAP → (p : ℕ) × (p < length mosts) × (numbered mosts p ≡ most)
+-- below the cap it is that of a level of the routine
+abbrev pub IsSomeMost : System → List ℕ → ℕ → ℕ → Type 0
+IsSomeMost S mosts i most =
+    most < CAP
+    → (p : ℕ) × (p < length mosts) × (numbered mosts p ≡ most) × (goes_at S p i ≡ true)
 
 -- no less is told than that, or where no run ends, than that less what the routine itself executes
 abbrev pub IsSoonTold : Peaks → ℕ → Bool → ℕ → ℕ → Type 0
@@ -109,10 +111,17 @@ abbrev pub LossIsTold : Peaks → List ArrivalRule → ℕ → ℕ → Type 0
 LossIsTold peaks rules most i =
     (1 ≤ told peaks (figure Measure.Loss i)) ⊎ ((most < CAP) × AreKeptApart rules i most)
 
-abbrev pub RoutinesAreTold : List ArrivalRule → Peaks → ℕ → Bool → List ℕ → ℕ → Type 0
-RoutinesAreTold rules peaks most over counts upto =
-    (i : ℕ) → i < upto
-    → LatencyIsTold peaks most over (numbered counts i) i × LossIsTold peaks rules most i
+-- .. by one of its levels
+pub record RoutineIsTold (S : System) (rules : List ArrivalRule) (peaks : Peaks) (mosts : List ℕ)
+    (over : Bool) (count i : ℕ) : Type 0 where
+  pub most : ℕ
+  pub of_level : IsSomeMost S mosts i most
+  pub latency : LatencyIsTold peaks most over count i
+  pub loss : LossIsTold peaks rules most i
+
+abbrev pub RoutinesAreTold : System → List ArrivalRule → Peaks → List ℕ → Bool → List ℕ → ℕ → Type 0
+RoutinesAreTold S rules peaks mosts over counts upto =
+    (i : ℕ) → i < upto → RoutineIsTold S rules peaks mosts over (numbered counts i) i
 
 -- ---- nodes
 

@@ -11,7 +11,7 @@ use crate::expiring::{Alarms, alarms_of};
 use crate::figures::peaks_of;
 use crate::lengths::routine_lengths;
 use crate::levels::{CAP, LevelWindow, levels_of};
-use crate::starts::{least_most, may_end};
+use crate::starts::may_end;
 use crate::told::are_told;
 use analysis_nodes::{Graph, graph_of};
 use arrival_rules::ArrivalRule;
@@ -26,8 +26,8 @@ pub const MAX_NODES: usize = 200_000;
 /// What an analysis tells.
 #[derive(Drop)]
 pub struct Analysis {
-    /// The level above all tasks, which is that of the routines, and behind it the levels of the
-    /// tasks by falling priority.
+    /// By falling numbers: levels among routines, the one just above all tasks, of which all
+    /// routines are, and those of the tasks by their priorities.
     pub levels: Vec<LevelWindow>,
     /// Where runs come to.
     pub graph: Graph,
@@ -59,12 +59,9 @@ fn checked_peaks(
 {
     system.shows_proper();
     analyses_bound();
-    let most = least_most(mosts);
     let ends = may_end(system, graph);
     let counts = routine_lengths(alloc, system, graph)?;
-    let peaks = peaks_of(
-        alloc, system, mode, rules, graph, mosts, most, ends, &counts,
-    )?;
+    let peaks = peaks_of(alloc, system, mode, rules, graph, mosts, ends, &counts)?;
     if !are_told(alloc, system, mode, rules, graph, mosts, &counts, &peaks)? {
         return Ok(None);
     }

@@ -18,7 +18,7 @@ ghost use Rattle.analysis_bounds.specs.Checks.{
 
 use crate::events::{held_besides, sets_cost_each};
 use crate::level::Level;
-use crate::standing::{is_off, is_upper, may_rise};
+use crate::standing::{goes_at, is_off, is_upper, may_rise};
 use crate::ways::{node_count, number_at, price_at};
 use analysis_nodes::{Graph, Node};
 use osek_base::{Owner, System};
@@ -60,7 +60,9 @@ fn fresh_is_paid(system: &System, level: &Level, node: &Node, price: u64) -> boo
             !upper || !begins(node) || price <= number_at(&level.tasks, number)
         }
         Owner::Routine(routine) => {
-            !begins(node) || price <= number_at(&level.arrivals, routine.number() as usize)
+            let number = routine.number() as usize;
+            let goes = goes_at(system, usize::from(level.priority), number);
+            !goes || !begins(node) || price <= number_at(&level.arrivals, number)
         }
     }
 }

@@ -251,7 +251,10 @@ fn is_lower_node(system: &System, graph: &Graph, priority: u8, number: usize) ->
         return false;
     }
     let node = &graph.nodes[number];
-    is_lower(system, priority, &node.owner)
+    match node.owner {
+        Owner::Task(_) => is_lower(system, priority, &node.owner),
+        Owner::Routine(_) => false,
+    }
 }
 
 /// The circle because of which there is no number of some item, if there is such an item.

@@ -5,7 +5,7 @@ use crate::circles::{NoBound, first_circle};
 use crate::level::Level;
 use crate::needs::{Item, Needs, event_number};
 use crate::prices::{cost_of_alarms, cost_of_boot, cost_of_expiry};
-use crate::standing::{is_counted, is_upper, leaves_section, may_rise};
+use crate::standing::{goes_at, is_counted, is_upper, leaves_section, may_rise};
 use crate::started::{Started, add_started, cost_of_started, started_by, started_by_alarm};
 use crate::waits::{add_freed, add_wait, cost_of_set, early_events, is_freed, wait_at};
 use crate::ways::is_lower;
@@ -214,9 +214,18 @@ fn work_out(
 
 // ---- what comes
 
-/// What an interrupt of a routine costs.
-fn cost_of_arrival(graph: &Graph, needs: &Needs, routine: usize) -> u64 {
+/// What an interrupt of a routine costs: nothing where the routine is below the level.
+fn cost_of_arrival(
+    system: &System,
+    graph: &Graph,
+    priority: u8,
+    needs: &Needs,
+    routine: usize,
+) -> u64 {
     let mut most: u64 = 0;
+    if !goes_at(system, usize::from(priority), routine) {
+        return most;
+    }
     for number in 0..graph.nodes.len() {
         let node = &graph.nodes[number];
         if let Owner::Routine(owner) = &node.owner {
@@ -228,14 +237,20 @@ fn cost_of_arrival(graph: &Graph, needs: &Needs, routine: usize) -> u64 {
     most
 }
 
-/// What the jobs below a level leave and start at most where a window begins, but for alarms.
+/// What the jobs and routines below a level leave and start at most where a window begins, but for
+/// alarms; beside a routine the section is left too.
 fn cost_of_beginning(system: &System, graph: &Graph, priority: u8, needs: &Needs) -> u64 {
     let mut most = needs.value(Item::Section);
     for number in 0..graph.nodes.len().min(graph.links.len()) {
         let node = &graph.nodes[number];
         if is_lower(system, priority, &node.owner) {
             let links = &graph.links[number];
-            most = most.max(cost_behind(system, priority, needs, node, links, false));
+            let left = cost_behind(system, priority, needs, node, links, false);
+            let besides = match node.owner {
+                Owner::Task(_) => 0,
+                Owner::Routine(_) => needs.value(Item::Section),
+            };
+            most = most.max(left.saturating_add(besides));
         }
     }
     most
@@ -277,7 +292,8 @@ fn add_costs(
         }
     }
     for routine in 0..system.routine_count() {
-        level.arrivals.push(cost_of_arrival(graph, needs, routine))?;
+        let cost = cost_of_arrival(system, graph, level.priority, needs, routine);
+        level.arrivals.push(cost)?;
     }
     Ok(())
 }

@@ -6,7 +6,7 @@ use crate::levels::CAP;
 use crate::pacing::count_at;
 use crate::refusals::{note_refusals, raise};
 use crate::refusing::{is_accepted, is_action_accepted};
-use crate::starts::are_kept_apart;
+use crate::starts::{are_kept_apart, least_most};
 use crate::told::{may_take, response_of};
 use analysis_nodes::Graph;
 use arrival_rules::ArrivalRule;
@@ -36,11 +36,10 @@ fn raise_refusals(
     mode: ModeId,
     rules: &[ArrivalRule],
     mosts: &[u32],
-    most: u32,
     peaks: &mut Peaks,
 ) {
     for task in 0..system.task_count() {
-        if !is_accepted(system, mode, rules, mosts, most, task) {
+        if !is_accepted(system, mode, rules, mosts, task) {
             raise(peaks, Measure::Refusal, task, 1);
         }
     }
@@ -79,16 +78,18 @@ fn latency_of(most: u32, ends: bool, count: u32) -> u32 {
     }
 }
 
-/// Of routines: an interrupt is pending for no longer than the shortest window of all levels.
+/// Of routines: an interrupt is pending for no longer than the shortest window of the levels of its
+/// routine.
 fn raise_routines(
     system: &System,
     rules: &[ArrivalRule],
-    most: u32,
+    mosts: &[u32],
     ends: bool,
     counts: &[u32],
     peaks: &mut Peaks,
 ) {
     for routine in 0..system.routine_count() {
+        let most = least_most(system, mosts, routine);
         let latency = latency_of(most, ends, count_at(counts, routine));
         raise(peaks, Measure::Latency, routine, latency);
         if most >= CAP || !are_kept_apart(rules, routine, most) {
@@ -97,9 +98,8 @@ fn raise_routines(
     }
 }
 
-/// All figures, by the ticks of windows of levels by priority, the shortest of them, whether who is
-/// at a node may end the run, and how many instructions routines execute at least. An error is want
-/// of memory.
+/// All figures, by the ticks of windows of levels, whether who is at a node may end the run, and how
+/// many instructions routines execute at least. An error is want of memory.
 pub(crate) fn peaks_of(
     alloc: Global,
     system: &System,
@@ -107,15 +107,14 @@ pub(crate) fn peaks_of(
     rules: &[ArrivalRule],
     graph: &Graph,
     mosts: &[u32],
-    most: u32,
     ends: bool,
     counts: &[u32],
 ) -> Result<Peaks, AllocError> {
     let mut peaks = Peaks::new(alloc);
     raise_tasks(system, mosts, &mut peaks);
     raise_holds(system, mosts, &mut peaks);
-    raise_routines(system, rules, most, ends, counts, &mut peaks);
-    raise_refusals(system, mode, rules, mosts, most, &mut peaks);
+    raise_routines(system, rules, mosts, ends, counts, &mut peaks);
+    raise_refusals(system, mode, rules, mosts, &mut peaks);
     if ends {
         raise(&mut peaks, Measure::Shutdown, 0, 1);
     }

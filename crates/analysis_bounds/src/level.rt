@@ -1,10 +1,10 @@
 //! What is counted of a level.
 
-/// Costs of a level: of the routines and of the tasks from a static priority upward. All are counts
+/// Costs of a level: of its routines, and of the tasks from a static priority upward. All are counts
 /// of instructions, so ticks.
 #[derive(Drop)]
 pub struct Level {
-    /// The least static priority of its tasks.
+    /// Its number: the least static priority of its tasks, or above all tasks that of its routines.
     pub priority: u8,
     /// Of an activation, by task; 0 of a task below the level.
     pub tasks: Vec<u64>,
@@ -15,7 +15,7 @@ pub struct Level {
     pub holds: Vec<u64>,
     /// Of the section of a task below the level that a dispatch begins.
     pub section: u64,
-    /// Of an interrupt, by routine.
+    /// Of an interrupt, by routine; 0 of a routine below the level.
     pub arrivals: Vec<u64>,
     /// Of an expiry, by alarm; 0 where the alarm pays when it is set.
     pub expiries: Vec<u64>,

@@ -7,31 +7,33 @@ ghost use Rattle.analysis_bounds.specs.Windows.{AreMosts, AreUnknown, MostOf};
 ghost use Rattle.analysis_bounds.specs.declared.levels.TheConstants.{CAP};
 
 use crate::expiring::Alarms;
-use crate::standing::priority_of;
+use crate::standing::{level_of_routine, priority_of};
 use crate::window::{MAX_WINDOW, Window, window_of};
 use analysis_nodes::Graph;
 use arrival_rules::ArrivalRule;
-use osek_base::{MAX_TASK_PRIORITY, ModeId, System};
+use osek_base::{MAX_ROUTINE_PRIORITY, MAX_TASK_PRIORITY, ModeId, System};
 use std::alloc::{AllocError, Global};
 
 /// A time that reaches it isn't told, in ticks.
 pub const CAP: u32 = MAX_WINDOW + 1;
 
-/// How many priorities there are at most that have a level.
-const LEVELS: u8 = MAX_TASK_PRIORITY + 2;
+/// How many numbers levels may have: the priorities of tasks, the next number above them, and as
+/// many more as priorities of routines differ.
+const LEVELS: u8 = MAX_TASK_PRIORITY + MAX_ROUTINE_PRIORITY + 2;
 
-/// The level of a priority.
+/// A level by its number: a static priority of tasks, or above them top + 1 + the PRIORITY of a
+/// routine.
 #[derive(Drop)]
 pub struct LevelWindow {
     pub priority: u8,
     pub window: Window,
 }
 
-/// The levels of a system, and what they come to by priority.
+/// The levels of a system, and what they come to by number.
 #[derive(Drop)]
 pub(crate) struct Levels {
     pub(crate) levels: Vec<LevelWindow>,
-    /// By priority, how many ticks windows have at most; the cap where that isn't known.
+    /// By number, how many ticks windows have at most; the cap where that isn't known.
     pub(crate) mosts: Vec<u32>,
 }
 
@@ -76,13 +78,26 @@ fn set_most(mosts: &mut Vec<u32>, priority: u8, most: u32)
     }
 }
 
-/// Whether a priority has a level: one that tasks have, and the next one above all tasks.
-fn is_level(system: &System, priority: u8) -> bool {
-    let top = system.top_priority();
-    priority == top.saturating_add(1) || has_priority(system, priority)
+/// Whether a routine has a level, and another one is below it.
+fn has_routine(system: &System, number: u8) -> bool {
+    let mut has = false;
+    let mut is_least = true;
+    for routine in 0..system.routine_count() {
+        let level = level_of_routine(system, routine);
+        has = has || level == usize::from(number);
+        is_least = is_least && level >= usize::from(number);
+    }
+    has && !is_least
 }
 
-/// Adds the level of a priority, if it has one.
+/// Whether there is a level of a number: one that tasks have, the next one above all tasks, and
+/// those among routines, of which the least is the one just above all tasks.
+fn is_level(system: &System, number: u8) -> bool {
+    let top = system.top_priority();
+    number == top.saturating_add(1) || has_priority(system, number) || has_routine(system, number)
+}
+
+/// Adds the level of a number, if there is one.
 fn add_level(
     alloc: Global,
     system: &System,
@@ -108,8 +123,8 @@ fn add_level(
     Ok(())
 }
 
-/// The level above all tasks, which is that of the routines, and behind it the levels of the tasks
-/// by falling priority. An error is want of memory.
+/// All levels by falling numbers: those among routines, the one just above all tasks, and those of
+/// the tasks. An error is want of memory.
 pub(crate) fn levels_of(
     alloc: Global,
     system: &System,

@@ -2,9 +2,9 @@
 //! whose interrupts keep their rules. It ends for each system whose graph of nodes isn't too large.
 //! `analyse_upper` says this of an upper part inside every accepted system.
 //!
-//! - Of each level, a static priority, is worked out what activations, events, interrupts, expiries
-//!   and nodes cost, by longest ways through the graph, and how many ticks are enough for its
-//!   windows. Nothing is proved of that but safety. What it comes to is checked, and what is proved
+//! - Of each level, a static priority or above them one of a routine, is worked out what
+//!   activations, events, interrupts, expiries and nodes cost, by longest ways through the graph,
+//!   and how many ticks are enough for its windows. Nothing is proved of that but safety. What it comes to is checked, and what is proved
 //!   of the checks is all that counts. Alarms that programs set, and never to a cycle, may pay when
 //!   they are set and not each time that they expire: each level is counted both ways.
 //! - `prices_pay`: at true prices pay as the laws ask, and each node has one. `alarms_of`,
@@ -24,7 +24,8 @@
 //! - `routine_share`, `alarm_share`: for people, how often something comes and what it costs.
 //!
 //! Jobs are bounded by windows of their level, so are blocked ticks and holds; latencies by the
-//! shortest window of all levels. No activation of a task is refused that nobody activates but
+//! shortest window of the levels of a routine: its own, where only routines before it count, and of
+//! others one that is active already. No activation of a task is refused that nobody activates but
 //! boot, nor of a basic one that an alarm alone activates, or a routine at one place, where each
 //! job ends before the next one is made. All other figures are as great as they may always be.
 #![tactic(auto)]

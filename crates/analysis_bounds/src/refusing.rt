@@ -21,7 +21,6 @@ ghost use Rattle.analysis_bounds.specs.Refusing.{
   RefusalsAreTold,
   RoutineIsSlow,
 };
-ghost use Rattle.analysis_bounds.specs.Told.{IsSomeMost};
 ghost use Rattle.analysis_bounds.specs.Windows.{AreMosts};
 
 use crate::activating::{
@@ -30,7 +29,7 @@ use crate::activating::{
 };
 use crate::levels::CAP;
 use crate::pacing::{is_never_set, ticks_of};
-use crate::starts::are_kept_apart;
+use crate::starts::{are_kept_apart, least_most};
 use crate::told::{response_of, told};
 use arrival_rules::ArrivalRule;
 use law_analysis::{accepted_actions, alarms_refuse_none, nobody_refuses, routines_refuse_none};
@@ -193,18 +192,20 @@ fn is_slow(
     system: &System,
     mode: ModeId,
     rules: &[ArrivalRule],
+    mosts: &[u32],
     task: usize,
     routine: usize,
-    latency: u32,
     most: u32,
 ) -> bool
     requires task { task < length system.now.tasks }
     requires routine { routine < length system.now.routines }
-    requires some { 1 ≤ latency }
-    requires low { latency < CAP }
     requires most { most < CAP }
-    ensures { IsTrue result → RoutineIsSlow system.now mode rules.now task latency most }
+    ensures { IsTrue result → RoutineIsSlow system.now mode rules.now mosts.now task most }
 {
+    let latency = least_most(system, mosts, routine);
+    if latency < 1 || latency >= CAP {
+        return false;
+    }
     match place_in(system, routine, task) {
         None => false,
         Some(place) => match ticks_between(latency, place, most) {
@@ -219,19 +220,16 @@ fn routine_is_slow(
     system: &System,
     mode: ModeId,
     rules: &[ArrivalRule],
+    mosts: &[u32],
     task: usize,
-    latency: u32,
     most: u32,
 ) -> bool
     requires task { task < length system.now.tasks }
     requires most { most < CAP }
-    ensures { IsTrue result → RoutineIsSlow system.now mode rules.now task latency most }
+    ensures { IsTrue result → RoutineIsSlow system.now mode rules.now mosts.now task most }
 {
-    if latency < 1 || latency >= CAP {
-        return false;
-    }
     for routine in 0..system.routine_count() {
-        if is_slow(system, mode, rules, task, routine, latency, most) {
+        if is_slow(system, mode, rules, mosts, task, routine, most) {
             return true;
         }
     }
@@ -244,12 +242,10 @@ fn are_jobs_short(
     mode: ModeId,
     rules: &[ArrivalRule],
     mosts: &[u32],
-    latency: u32,
     task: usize,
 ) -> bool
     requires { task < length system.now.tasks }
-    ensures { IsTrue result
-        → AreJobsShort system.now mode rules.now mosts.now latency task }
+    ensures { IsTrue result → AreJobsShort system.now mode rules.now mosts.now task }
 {
     let most = response_of(system, mosts, task);
     if most >= CAP || is_extended(system, task) {
@@ -258,26 +254,24 @@ fn are_jobs_short(
     if alarm_is_slow(system, mode, task, most) {
         return true;
     }
-    routine_is_slow(system, mode, rules, task, latency, most)
+    routine_is_slow(system, mode, rules, mosts, task, most)
 }
 
-/// Whether it is known of a task that no activation is refused, by the ticks of windows of levels
-/// by priority and those before a routine starts.
+/// Whether it is known of a task that no activation is refused, by the ticks of windows of levels.
 pub(crate) fn is_accepted(
     system: &System,
     mode: ModeId,
     rules: &[ArrivalRule],
     mosts: &[u32],
-    latency: u32,
     task: usize,
 ) -> bool
     requires { task < length system.now.tasks }
-    ensures { IsTrue result → IsAccepted system.now mode rules.now mosts.now latency task }
+    ensures { IsTrue result → IsAccepted system.now mode rules.now mosts.now task }
 {
     if is_left_alone(system, task) {
         return true;
     }
-    are_jobs_short(system, mode, rules, mosts, latency, task)
+    are_jobs_short(system, mode, rules, mosts, task)
 }
 
 /// Whether it is known of a task that no activation is refused, or is told that one may be.
@@ -286,18 +280,17 @@ fn is_known(
     mode: ModeId,
     rules: &[ArrivalRule],
     mosts: &[u32],
-    latency: u32,
     peaks: &Peaks,
     task: usize,
 ) -> bool
     requires { task < length system.now.tasks }
     ensures { IsTrue result
-        → IsKnown system.now mode rules.now mosts.now latency peaks.now task }
+        → IsKnown system.now mode rules.now mosts.now peaks.now task }
 {
     if told(peaks, Measure::Refusal, task) >= 1 {
         return true;
     }
-    is_accepted(system, mode, rules, mosts, latency, task)
+    is_accepted(system, mode, rules, mosts, task)
 }
 
 /// .. of each task.
@@ -306,14 +299,13 @@ fn are_accepted(
     mode: ModeId,
     rules: &[ArrivalRule],
     mosts: &[u32],
-    latency: u32,
     peaks: &Peaks,
 ) -> bool
-    ensures { IsTrue result → AreAccepted system.now mode rules.now mosts.now latency peaks.now
+    ensures { IsTrue result → AreAccepted system.now mode rules.now mosts.now peaks.now
         (length system.now.tasks) }
 {
     for task in 0..system.task_count() {
-        if !is_known(system, mode, rules, mosts, latency, peaks, task) {
+        if !is_known(system, mode, rules, mosts, peaks, task) {
             return false;
         }
     }
@@ -359,11 +351,9 @@ pub(crate) fn refusals_are_told(
     mode: ModeId,
     rules: &[ArrivalRule],
     mosts: &[u32],
-    latency: u32,
     peaks: &Peaks,
 ) -> bool
     requires mosts { AreMosts system.now mode rules.now CAP mosts.now }
-    requires latency { IsSomeMost mosts.now latency }
     ensures { IsTrue result → RefusalsAreTold system.now mode rules.now peaks.now }
 {
     system.shows_proper();
@@ -371,7 +361,7 @@ pub(crate) fn refusals_are_told(
     alarms_refuse_none();
     routines_refuse_none();
     accepted_actions();
-    if !are_accepted(system, mode, rules, mosts, latency, peaks) {
+    if !are_accepted(system, mode, rules, mosts, peaks) {
         return false;
     }
     are_actions_accepted(system, peaks)

@@ -3,7 +3,8 @@
 ghost use Rattle.std.specs.Prelude.{◌≡◌, map};
 ghost use Rattle.osek_base.specs.Ceiling.{ceiling};
 ghost use Rattle.osek_base.specs.Lists.{greatest};
-ghost use Rattle.osek_base.specs.System.{priority_of};
+ghost use Rattle.osek_base.specs.System.{priority_of, routine};
+ghost use Rattle.law_windows.specs.Work.{goes_at, level_of_routine};
 ghost use Rattle.law_costs.specs.Left.{is_off};
 ghost use Rattle.law_costs.specs.Paying.{is_upper};
 ghost use Rattle.law_nodes.specs.Paid.{lowest, may_rise};
@@ -29,6 +30,30 @@ pub(crate) fn priority_of(system: &System, task: usize) -> u8
         None => 0,
         Some(task) => task.priority,
     }
+}
+
+/// The PRIORITY of the routine of a number; 0 where there is none.
+fn routine_priority(system: &System, number: usize) -> u8
+    ensures { result ≡ (routine system.now number).priority }
+{
+    match system.parts().routines.get(number) {
+        None => 0,
+        Some(own) => own.priority,
+    }
+}
+
+/// The level of a routine: above all tasks, by its priority.
+pub(crate) fn level_of_routine(system: &System, routine: usize) -> usize
+    ensures { result ≡ level_of_routine system.now routine }
+{
+    usize::from(system.top_priority()) + 1 + usize::from(routine_priority(system, routine))
+}
+
+/// Whether a routine is of a level, as all are up to the one just above all tasks.
+pub(crate) fn goes_at(system: &System, level: usize, routine: usize) -> bool
+    ensures { result ≡ goes_at system.now level routine }
+{
+    level <= level_of_routine(system, routine)
 }
 
 /// Whether a task is of the level of a priority.

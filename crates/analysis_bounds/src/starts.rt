@@ -10,6 +10,7 @@ ghost use Rattle.analysis_bounds.specs.Told.{
   KeepsRoutineApart,
   LatencyIsTold,
   LossIsTold,
+  RoutineIsTold,
   RoutinesAreTold,
   ends,
 };
@@ -17,6 +18,7 @@ ghost use Rattle.analysis_bounds.specs.Told.{
 use crate::levels::CAP;
 use crate::pacing::count_at;
 use crate::slowness::instruction_of;
+use crate::standing::goes_at;
 use crate::told::told;
 use crate::ways::node_count;
 use analysis_nodes::{Graph, Node};
@@ -25,14 +27,16 @@ use osek_base::{Control, Instr, System};
 use search_peaks::Peaks;
 use view_measures::Measure;
 
-/// The least of the numbers of ticks of all levels that bound windows, else the cap.
-pub(crate) fn least_most(mosts: &[u32]) -> u32
-    ensures { IsSomeMost mosts.now result }
+/// The least of the numbers of ticks that bound windows of the levels of a routine, else the cap.
+pub(crate) fn least_most(system: &System, mosts: &[u32], routine: usize) -> u32
+    ensures { IsSomeMost system.now mosts.now routine result }
 {
     let mut least = CAP;
-    for priority in 0..mosts.len() {
-        if mosts[priority] < least {
-            least = mosts[priority];
+    for level in 0..mosts.len() {
+        let most = mosts[level];
+        let goes = goes_at(system, level, routine);
+        if goes && most < least {
+            least = most;
         }
     }
     least
@@ -118,23 +122,41 @@ fn loss_is_told(peaks: &Peaks, rules: &[ArrivalRule], most: u32, routine: usize)
     most < CAP && are_kept_apart(rules, routine, most)
 }
 
+/// Whether all is so that is told of a routine, by how many instructions it executes at least.
+fn routine_is_told(
+    system: &System,
+    rules: &[ArrivalRule],
+    peaks: &Peaks,
+    mosts: &[u32],
+    ends: bool,
+    count: u32,
+    routine: usize,
+) -> bool
+    ensures { IsTrue result
+        → RoutineIsTold system.now rules.now peaks.now mosts.now ends count routine }
+{
+    let most = least_most(system, mosts, routine);
+    if !latency_is_told(peaks, most, ends, count, routine) {
+        return false;
+    }
+    loss_is_told(peaks, rules, most, routine)
+}
+
 /// Whether all is so that is told of routines, by how many instructions each executes at least.
 pub(crate) fn routines_are_told(
     system: &System,
     rules: &[ArrivalRule],
     peaks: &Peaks,
-    most: u32,
+    mosts: &[u32],
     ends: bool,
     counts: &[u32],
 ) -> bool
-    ensures { IsTrue result
-        → RoutinesAreTold rules.now peaks.now most ends counts.now (length system.now.routines) }
+    ensures { IsTrue result → RoutinesAreTold system.now rules.now peaks.now mosts.now ends
+        counts.now (length system.now.routines) }
 {
     for routine in 0..system.routine_count() {
-        if !latency_is_told(peaks, most, ends, count_at(counts, routine), routine) {
-            return false;
-        }
-        if !loss_is_told(peaks, rules, most, routine) {
+        let count = count_at(counts, routine);
+        if !routine_is_told(system, rules, peaks, mosts, ends, count, routine) {
             return false;
         }
     }

@@ -25,7 +25,7 @@ use crate::levels::CAP;
 use crate::refusals::{keys_of, nodes_are_told};
 use crate::refusing::refusals_are_told;
 use crate::standing::priority_of;
-use crate::starts::{least_most, may_end, routines_are_told};
+use crate::starts::{may_end, routines_are_told};
 use analysis_nodes::{Graph, graphs_are_closed};
 use arrival_rules::ArrivalRule;
 use law_analysis::long_routines_start_early;
@@ -168,7 +168,6 @@ pub(crate) fn are_told(
     graphs_are_closed();
     long_routines_start_early();
     let ends = may_end(system, graph);
-    let most = least_most(mosts);
     let keys = keys_of(alloc, peaks.failures())?;
     if !tasks_are_told(system, peaks, mosts) {
         return Ok(false);
@@ -176,10 +175,10 @@ pub(crate) fn are_told(
     if !holds_are_told(system, peaks) {
         return Ok(false);
     }
-    if !routines_are_told(system, rules, peaks, most, ends, counts) {
+    if !routines_are_told(system, rules, peaks, mosts, ends, counts) {
         return Ok(false);
     }
-    if !refusals_are_told(system, mode, rules, mosts, most, peaks) {
+    if !refusals_are_told(system, mode, rules, mosts, peaks) {
         return Ok(false);
     }
     if !end_is_told(peaks, ends) {

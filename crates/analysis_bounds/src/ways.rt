@@ -14,6 +14,7 @@ ghost use Rattle.analysis_bounds.specs.Checks.{
   IsEnough,
   IsWithin,
   Pays,
+  beside,
   cost_of_way,
   freed_at,
   freed_of,
@@ -27,7 +28,7 @@ use crate::events::{cost_of_set, least_in};
 use crate::level::Level;
 use crate::prices::cost_of_alarms;
 use crate::slowness::instruction_of;
-use crate::standing::{is_counted, is_upper, leaves_section};
+use crate::standing::{goes_at, is_counted, is_upper, leaves_section};
 use analysis_nodes::{Graph, Node, Start, Way, outcomes_are_all};
 use osek_base::{Instr, Owner, Service, Status, System, TaskId};
 
@@ -311,18 +312,32 @@ fn is_enough(
     }
 }
 
-/// Whether it is a job of a task below the level.
+/// Whether it is a job of a task below the level, or a routine.
 pub(crate) fn is_lower(system: &System, priority: u8, owner: &Owner) -> bool
     ensures { result ≡ is_lower system.now priority owner.now }
 {
     match owner {
         Owner::Task(task) => !is_upper(system, priority, task.number() as usize),
-        Owner::Routine(_) => false,
+        Owner::Routine(routine) => {
+            !goes_at(system, usize::from(priority), routine.number() as usize)
+        }
     }
 }
 
-/// Whether of a task below the level no more is left than may be where a window begins, besides all
-/// alarms: one that it sets is among them.
+/// What may be left besides of who is below the level where a window begins: all alarms, and beside
+/// a routine the section too; None above 2^64.
+fn cost_beside(system: &System, level: &Level, owner: &Owner) -> Option<u64>
+    ensures { IfSome result (λ cost. cost ≡ beside owner.now system.now (weights_of level.now)) }
+{
+    let set = cost_of_alarms(system, level)?;
+    match owner {
+        Owner::Task(_) => Some(set),
+        Owner::Routine(_) => level.section.checked_add(set),
+    }
+}
+
+/// Whether of a task or routine below the level no more is left than may be where a window begins,
+/// besides all alarms: one that it sets is among them.
 fn begins_with_enough(
     system: &System,
     graph: &Graph,
@@ -336,10 +351,10 @@ fn begins_with_enough(
     if !is_lower(system, level.priority, &node.owner) {
         return true;
     }
-    let Some(set) = cost_of_alarms(system, level) else {
+    let Some(besides) = cost_beside(system, level, &node.owner) else {
         return false;
     };
-    let Some(most) = level.at_begin.checked_sub(set) else {
+    let Some(most) = level.at_begin.checked_sub(besides) else {
         return false;
     };
     ways_fit(system, graph, level, node, ways, &[], most, 0)

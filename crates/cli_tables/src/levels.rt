@@ -5,7 +5,7 @@ use crate::failed_service::name_of;
 use analysis_bounds::{Analysis, Level, LevelWindow, NoBound, Window, alarm_share, routine_share};
 use analysis_nodes::Graph;
 use arrival_rules::ArrivalRule;
-use osek_base::{Name, System, TaskId};
+use osek_base::{IsrId, Name, System, TaskId};
 use std::io::{self, Write};
 
 /// The name of a number; empty, where there is none.
@@ -16,9 +16,27 @@ fn name_at(names: &[Name], number: usize) -> &str {
     }
 }
 
-/// Writes the priority of a level and the tasks that have it, or that it's of the routines alone.
+/// Writes the priority of a level among routines and the routines that have it.
+fn write_routines<W: Write>(system: &System, priority: u8, out: &mut W) -> io::Result<()> {
+    write!(out, "routine priority {priority}")?;
+    let names = system.names();
+    for number in 0..system.routine_count() {
+        if system.routine_priority(IsrId::new(number as u8)) == priority {
+            write!(out, ", {}", name_at(names.routines.as_slice(), number))?;
+        }
+    }
+    Ok(())
+}
+
+/// Writes the priority of a level and the tasks that have it; or that it's of the routines alone,
+/// and which have it.
 fn write_level<W: Write>(system: &System, priority: u8, out: &mut W) -> io::Result<()> {
-    if priority > system.top_priority() {
+    let top = system.top_priority();
+    if priority > top {
+        let above = priority - top - 1;
+        if above > 0 {
+            return write_routines(system, above, out);
+        }
         return out.write_all(b"routines alone");
     }
     write!(out, "priority {priority}")?;

@@ -5,6 +5,6 @@ use Rattle.analysis_bounds.proofs.refusing.are_accepted.Goals as goal
 pub loop-task-preserved : goal.loop-task-preserved
 loop-task-preserved c =
     also_next
-    (IsKnown c.args.system.now c.args.mode c.args.rules.now c.args.mosts.now c.args.latency
+    (IsKnown c.args.system.now c.args.mode c.args.rules.now c.args.mosts.now
     c.args.peaks.now)
     c.loop-task.task c.loop-task.invariant (c.is_known.ensures c.if-not-is_known.false)

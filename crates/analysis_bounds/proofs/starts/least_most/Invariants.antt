@@ -1,5 +1,5 @@
 use Rattle.analysis_bounds.specs.Told.{IsSomeMost}
 use Rattle.analysis_bounds.proofs.starts.least_most.Given as goal
 
-abbrev pub invariant-loop-priority : goal.invariant-loop-priority
-invariant-loop-priority l = IsSomeMost l.mosts l.least
+abbrev pub invariant-loop-level : goal.invariant-loop-level
+invariant-loop-level l = IsSomeMost l.system l.mosts l.routine l.least

@@ -31,16 +31,17 @@ returns c h =
           (holds r inside k low may) below;
       latencies = λ i low below.
           latency_told S c.args.mode c.args.rules.now peaks c.args.mosts.now c.requires.mosts
-          c.least_most-most.result c.least_most-most.ensures (table_of g) c.may_end-ends.result
-          (numbered c.args.counts.now i) i c.long_routines_start_early.ensures
-          c.shows_proper.ensures (c.graphs_are_closed.ensures S g c.requires.graph)
-          (c.requires.counts i) ends (routines i low).0.soon below;
+          (routines i low).most i low (routines i low).of_level (table_of g)
+          c.may_end-ends.result (numbered c.args.counts.now i)
+          c.long_routines_start_early.ensures c.shows_proper.ensures
+          (c.graphs_are_closed.ensures S g c.requires.graph) (c.requires.counts i) ends
+          (routines i low).latency.soon below;
       endings = λ i low below ended.
-          (routines i low).0.ending
+          (routines i low).latency.ending
           (noted_end c.may_end-ends.result (may_end S (table_of g)) ends ended);
       losses = λ i low.
-          loss_told S c.args.mode c.args.rules.now peaks c.args.mosts.now c.requires.mosts
-          c.least_most-most.result c.least_most-most.ensures i low (routines i low).1;
+          loss_told S c.args.mode c.args.rules.now peaks c.args.mosts.now c.requires.mosts i
+          (routines i low).most low (routines i low).of_level (routines i low).loss;
       jobs = λ k low. (tasks k low).1.jobs;
       blockers = λ k low. (tasks k low).1.blockers;
       refusals = refused.tasks;
