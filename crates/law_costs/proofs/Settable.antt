@@ -12,12 +12,13 @@ use Rattle.osek_base.specs.Activation.{activated, released}
 use Rattle.osek_base.specs.Instruction.{Context}
 use Rattle.osek_base.specs.Lists.{is_empty}
 use Rattle.osek_base.specs.Service.{Caller, JobCalls, NobodyCalls, RoutineCalls, caller_ended, effect, event_awaited, event_set, events_cleared, first_refusal, given_up, is_met, is_outranked, meets, refusals, released_by, reply_to, service, unasked_service, waiting_for, with_caller, with_events}
-use Rattle.osek_base.specs.State.{Job, JobId, State, interrupts_off, jobs_of, with_job}
+use Rattle.osek_base.specs.State.{Job, State, interrupts_off, jobs_of, with_job}
 use Rattle.osek_base.specs.System.{Alarm, Routine, System, Task, alarm, instruction_at, instruction_in, is_extended, no_alarm, no_routine, no_task, program, routine, task}
 use Rattle.osek_base.specs.Tick.{action_call, at_values}
 use Rattle.osek_base.specs.Types.{ServiceCall}
 use Rattle.law_runs.proofs.Foremost.{self_equal}
 use Rattle.law_costs.specs.Settable.{AreSettable, IsSettable, all_of, by_alarms, by_routines, by_tasks, set_for, settable, settable_in, sets_for}
+use Rattle.law_costs.proofs.Starts.{released_masks}
 
 -- ---- masks
 
@@ -127,10 +128,6 @@ module _ (S : System) where
   ended_settable (JobCalls j) s all = all
   ended_settable (RoutineCalls a) s all = all
   ended_settable NobodyCalls s all = all
-
-  released_masks : (n : JobId) (s : State) → (released n s).masks ≡ s.masks
-  unfolding released
-  released_masks n s = refl
 
   met_settable : (events : ℕ) (jobs : List Job) (s : State) → AreSettable S s.masks
       → AreSettable S (released_by events jobs s).masks

@@ -1,7 +1,7 @@
 -- At some nodes a job that executes counts behind its instruction in any case.
-use Rattle.std.proofs.Common.{◌≡◌, ℕ, ◌≤◌, max, Bool, true, false, cond, not, ◌||◌, nat_le, List, map, refl, sym, ◌∙◌, ap, subst, arith}
+use Rattle.std.proofs.Common.{◌≡◌, ℕ, max, Bool, true, false, cond, not, ◌||◌, nat_le, List, map, refl, sym, ◌∙◌, ap, subst}
 use Rattle.std.specs.Prelude.{Option, Some, None, is_some, unwrap_or}
-use Rattle.std.proofs.lemmas.Bool.{and_from, and_parts, le-leb, leb-true}
+use Rattle.std.proofs.lemmas.Bool.{and_from, and_parts}
 use Rattle.osek_base.specs.declared.ids.Owner.{Owner}
 use Rattle.osek_base.specs.Ceiling.{ceiling, internal_ceiling}
 use Rattle.osek_base.specs.Lists.{greatest}
@@ -17,9 +17,9 @@ use Rattle.law_costs.specs.Known.{Executes}
 use Rattle.law_costs.specs.Left.{Switch, counts, is_off, switch_of}
 use Rattle.law_costs.proofs.Entered.{IsMoved, moved_where_off}
 use Rattle.law_nodes.specs.Nodes.{Node, is_at, of_job}
-use Rattle.law_nodes.specs.Prices.{highest, may_count, stays_counted}
+use Rattle.law_nodes.specs.Prices.{highest, stays_counted}
 use Rattle.law_nodes.proofs.Owning.{caller_alone}
-use Rattle.law_nodes.proofs.Standing.{at_is, node_of}
+use Rattle.law_nodes.proofs.Standing.{at_is}
 use Rattle.law_nodes.proofs.Tests.{first_of, second_of}
 
 -- ---- a job that stays counted

@@ -5,6 +5,7 @@ pub mod Stepping
 pub mod Refusing
 pub mod Answering
 pub mod Owning
+pub mod Showing
 pub mod Granting
 pub mod Telling
 pub mod Executing

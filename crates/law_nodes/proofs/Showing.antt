@@ -1,21 +1,32 @@
 -- What a job finds set for its own task is one of the choices, and r1 tells which.
-use Rattle.std.proofs.Common.{◌≡◌, ℕ, zero, suc, ◌+◌, ◌-◌, ◌*◌, ◌^◌, ◌<◌, ◌≤◌, inl, inr, Bool, true, false, cond, ◌&&◌, ◌||◌, List, [], ◌∷◌, ◌++◌, map, length, refl, sym, ◌∙◌, ap, subst, arith, min}
-use Rattle.std.specs.Prelude.{Option, Some, None, ◌==◌, slice_set, nat_le, bit_and, bit_or, count_ones}
+use Rattle.std.proofs.Common.{◌≡◌, ℕ, zero, suc, ◌+◌, ◌-◌, ◌*◌, ◌^◌, ◌<◌, ◌≤◌, inl, inr, Bool, true, false, cond, ◌||◌, List, [], ◌∷◌, ◌++◌, map, length, refl, sym, ◌∙◌, ap, subst, arith, min}
+use Rattle.std.specs.Prelude.{Option, Some, ◌==◌, slice_index, slice_set, nat_le, bit_and, bit_or, count_ones}
 use Rattle.std.specs.Int.{bit_at}
 use Rattle.std.proofs.Math.Nat.{pow-suc}
 use Rattle.std.proofs.lemmas.Bool.{and_parts, cases_lt, ltb-true}
 use Rattle.std.proofs.lemmas.Nat.{and_le_l, or_disjoint}
-use Rattle.std.proofs.lemmas.Nat.Bits.{and_pow, bit_at-lt, bit_at-zero, bit_at_above, bit_at_and, bit_at_cat_high, bit_at_cat_low, same_from_bits}
+use Rattle.std.proofs.lemmas.Nat.Bits.{and_pow, bit_at-lt, bit_at_above, bit_at_and, bit_at_cat_high, bit_at_cat_low, same_from_bits}
+use Rattle.osek_base.specs.declared.instr.Service.{Service}
 use Rattle.osek_base.specs.declared.limits.TheConstants.{MAX_EVENTS}
+use Rattle.osek_base.specs.declared.status.Status.{Status}
+use Rattle.osek_base.specs.Instruction.{Context}
 use Rattle.osek_base.specs.Lists.{is_in}
+use Rattle.osek_base.specs.Service.{JobCalls, results}
+use Rattle.osek_base.specs.State.{Job, State, same_id}
 use Rattle.osek_base.specs.System.{System}
+use Rattle.osek_base.specs.Tick.{at_values}
+use Rattle.osek_base.specs.Types.{ServiceCall}
 use Rattle.law_runs.proofs.Foremost.{equal, self_equal}
+use Rattle.law_runs.proofs.Known.{IsRunningCaller}
 use Rattle.law_runs.proofs.Lists.{clash}
-use Rattle.law_costs.specs.Settable.{settable}
+use Rattle.law_costs.specs.Known.{Executes}
+use Rattle.law_costs.specs.Settable.{AreSettable}
 use Rattle.law_nodes.specs.Early.{is_mask, is_set}
-use Rattle.law_nodes.specs.Nodes.{Node, Standing, Table, is_at, is_told}
-use Rattle.law_nodes.specs.Shown.{MOST_SHOWN, are_few, choices, shown_node, subsets, with_event}
+use Rattle.law_nodes.specs.Nodes.{Node, Standing, is_at, is_told}
+use Rattle.law_nodes.specs.Shown.{MOST_SHOWN, are_few, choices, subsets, with_event}
+use Rattle.law_nodes.proofs.Answering.{answered_context}
 use Rattle.law_nodes.proofs.Knowing.{AreValues}
+use Rattle.law_nodes.proofs.Owning.{place_found}
 
 -- ---- lists
 
@@ -101,14 +112,15 @@ choices_have m zero v low of =
     ap (λ u. 0 == u || false) none
 choices_have m (suc k) v low of = elim (cases_lt v (2 ^ k)) [
   | inl less ↦ with_first m k v (choices m k) (choices_have m k v less of)
-  | inr more ↦ has_last more
+  | inr more ↦ has_last more (choices_have m k)
 ]
   where
-    has_last : 2 ^ k ≤ v → is_in v (choices m (suc k)) ≡ true
-    has_last more =
+    has_last : 2 ^ k ≤ v
+        → ((u : ℕ) → u < 2 ^ k → IsOf u m → is_in u (choices m k) ≡ true)
+        → is_in v (choices m (suc k)) ≡ true
+    has_last more rest =
         subst (λ w. is_in w (choices m (suc k)) ≡ true) (sym whole)
-        (with_more m k u (choices m k) (set_is m k (of k here))
-        (choices_have m k u small others))
+        (with_more m k u (choices m k) (set_is m k (of k here)) (rest u small others))
       where
         u : ℕ
         u = v - 2 ^ k
@@ -179,7 +191,38 @@ shown_is (o ∷ []) (a ∷ b ∷ values) v u long all = absurd all.1
 shown_is (o ∷ p ∷ registers) (a ∷ b ∷ values) v u long all = all.1.0
 
 -- set twice
-pub set_again : (values : List ℕ) (v : ℕ) → slice_set (slice_set values 1 v) 1 v ≡ slice_set values 1 v
+pub set_again : (values : List ℕ) (v : ℕ)
+    → slice_set (slice_set values 1 v) 1 v ≡ slice_set values 1 v
 set_again [] v = refl
 set_again (a ∷ []) v = refl
 set_again (a ∷ b ∷ values) v = refl
+
+-- r1 has the events of a task that are got
+abbrev pub HasShown : State → ServiceCall → List ℕ → Type 0
+HasShown s (Service.GetEvent (Some t)) registers =
+    (values : List ℕ) × (1 < length values)
+    × (registers ≡ slice_set values 1 (slice_index s.masks t))
+HasShown s call registers = Unit {0}
+
+set_long : (values : List ℕ) (v : ℕ) → 1 < length values → 1 < length (slice_set values 0 v)
+set_long [] v long = long
+set_long (a ∷ values) v long = long
+
+pub has_shown : (S : System) (s : State) (x : Context) (call : ServiceCall)
+    → 1 < length x.registers
+    → HasShown s call (answered_context Status.Ok (results S s (at_values x call)) x).registers
+has_shown S s x (Service.GetEvent (Some t)) long =
+    (slice_set x.registers 0 0, set_long x.registers 0 long, refl)
+has_shown S s x _ long = tt
+
+-- a job that has two registers at least, in a state in which no event is set that isn't settable
+pub record CanBeShown (S : System) (s : State) (j : Job) : Type 0 where
+  pub within : AreSettable S s.masks
+  pub long : 1 < length j.context.registers
+
+pub can_be_shown : (S : System) (s : State) (j : Job) → Executes S (JobCalls j) s
+    → IsRunningCaller s j → CanBeShown S s j
+can_be_shown S s j executes calls =
+    let there = place_found (λ k. same_id k.id j.id) s.jobs j calls.found in
+    let long = executes.shaped.job_registers there.0 j there.1 in
+    record { within = executes.within; long = omega (arith, long) }
