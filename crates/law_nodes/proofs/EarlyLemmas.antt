@@ -13,7 +13,7 @@ use Rattle.law_costs.proofs.Totals.{sum_lower}
 use Rattle.law_nodes.specs.Early.{awaited, bits, freed_by, freed_early, freed_shown, held_early, holds_events, is_set, shows, sum_besides, sum_but, sum_of}
 use Rattle.law_nodes.specs.Nodes.{Node, is_within}
 use Rattle.law_nodes.specs.Prices.{highest, may_count}
-use Rattle.law_nodes.proofs.Gains.{LeavesHeld}
+use Rattle.law_nodes.proofs.Leaving.{LeavesHeld}
 use Rattle.law_nodes.proofs.MaskSums.{but_besides, but_more, but_used, none_but_any}
 
 -- an extended task exists

@@ -1,6 +1,6 @@
 -- Events that are set for a job and not used hold no more behind its instruction than before.
 use Rattle.std.proofs.Common.{◌≡◌, ℕ, zero, suc, ◌+◌, ◌≤◌, ◌⊎◌, inl, inr, Bool, true, false, cond, not, ◌&&◌, ◌||◌, ◌<◌, List, [], ◌∷◌, map, length, refl, sym, ◌∙◌, ap, subst, arith}
-use Rattle.std.specs.Prelude.{Option, Some, None, is_some, slice_index, slice_set, bit_and, bit_or, bit_xor, ◌==◌}
+use Rattle.std.specs.Prelude.{Option, Some, None, slice_index, slice_set, bit_and, bit_or, bit_xor, ◌==◌}
 use Rattle.std.specs.List.{AllByRecursion}
 use Rattle.std.proofs.lemmas.Bool.{and_parts}
 use Rattle.osek_base.specs.declared.ids.Owner.{Owner}
@@ -23,8 +23,8 @@ use Rattle.law_costs.specs.Left.{Switch, switch_of}
 use Rattle.law_costs.specs.Settable.{settable}
 use Rattle.law_costs.proofs.Events.{IsAlike, activated_alike, masks_set, set_other}
 use Rattle.law_costs.proofs.Starts.{released_masks}
-use Rattle.law_nodes.specs.Early.{awaited, freed_by, freed_shown, is_set, shows, sum_but}
-use Rattle.law_nodes.specs.Nodes.{Node, Standing, Table, is_at, of_job}
+use Rattle.law_nodes.specs.Early.{awaited, is_set, shows, sum_but}
+use Rattle.law_nodes.specs.Nodes.{Node, Standing, Table, of_job}
 use Rattle.law_nodes.specs.Services.{Nothing, answered_node, caller_by, job_granted, replied, results_of, with_found}
 use Rattle.law_nodes.specs.Shown.{are_few, shown_node, subsets}
 use Rattle.law_nodes.specs.Steps.{control_steps, jumped, plain_steps}
@@ -32,41 +32,12 @@ use Rattle.law_nodes.specs.Values.{known, of_known}
 use Rattle.law_nodes.proofs.Answering.{answered_is}
 use Rattle.law_nodes.proofs.Granting.{changes}
 use Rattle.law_nodes.proofs.Knowing.{AreValues}
+use Rattle.law_nodes.proofs.Leaving.{LeavesAt, alike_held, stays_held}
 use Rattle.law_nodes.proofs.Masks.{set_cleared, set_or}
-use Rattle.law_nodes.proofs.MaskSums.{but_within, gone_on, none_but, refused_on, same_shown, used_free}
+use Rattle.law_nodes.proofs.MaskSums.{but_within, gone_on, none_but, used_free}
 use Rattle.law_nodes.proofs.Owning.{IsAlone, IsOwn, own_changed}
 use Rattle.law_nodes.proofs.Showing.{HasShown, has_shown, shown_is}
 use Rattle.law_nodes.proofs.Standing.{at_is, node_of}
-
--- a step of a job that doesn't wait: by the events that are set before and behind it
-abbrev pub LeavesHeld : Option ℕ → Bool → ℕ → ℕ → ℕ → Node → Type 0
-LeavesHeld o shown before after used m =
-    is_some m.waits_for ≡ false → (f : ℕ → ℕ)
-    → sum_but f after m.used
-    + (freed_by f o used m.used + freed_shown f shown used m.used) ≤ sum_but f before used
-
--- .. if it is at that one
-abbrev pub LeavesAt : Standing → Option ℕ → Bool → ℕ → ℕ → ℕ → Node → Type 0
-LeavesAt z o shown before after used m =
-    is_at m z ≡ true → LeavesHeld o shown before after used m
-
--- nothing changes
-pub stays_held : (o : Option ℕ) (shown : Bool) (set used : ℕ) (m : Node) → m.used ≡ used
-    → LeavesHeld o shown set set used m
-stays_held o shown set used m same ready f =
-    let none = refused_on f o used in
-    let all = same_shown f shown used in
-    let sums = ap (sum_but f set) same in
-    let freed = ap (freed_by f o used) same in
-    let told = ap (freed_shown f shown used) same in
-    omega (arith, none, all, sums, freed, told)
-
--- so many are set behind it as before
-pub alike_held : (o : Option ℕ) (shown : Bool) (before after used : ℕ) (m : Node)
-    → after ≡ before → m.used ≡ used → LeavesHeld o shown before after used m
-alike_held o shown before after used m is same =
-    subst (λ n. LeavesHeld o shown before n used m) (sym is)
-    (stays_held o shown before used m same)
 
 -- a mask is replaced, or there is none
 replaced : (masks : List ℕ) (t m : ℕ) → (slice_index (slice_set masks t m) t ≡ m)

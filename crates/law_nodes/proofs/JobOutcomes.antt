@@ -23,8 +23,9 @@ use Rattle.law_nodes.specs.Prices.{all_outcomes}
 use Rattle.law_nodes.specs.Services.{caller_by, refusals_of, replied}
 use Rattle.law_nodes.specs.Steps.{steps_by}
 use Rattle.law_nodes.proofs.Executing.{job_replied, own_told}
-use Rattle.law_nodes.proofs.Gains.{LeavesAt, control_held, plain_held, replied_held}
+use Rattle.law_nodes.proofs.Gains.{control_held, plain_held, replied_held}
 use Rattle.law_nodes.proofs.Knowing.{AreValues}
+use Rattle.law_nodes.proofs.Leaving.{LeavesAt}
 use Rattle.law_nodes.proofs.Owning.{IsAlone, IsOwn, own_changed}
 use Rattle.law_nodes.proofs.Refusing.{refusals_told}
 use Rattle.law_nodes.proofs.Showing.{CanBeShown}
@@ -136,7 +137,9 @@ module _ (S : System) (s : State) (j : Job) (calls : IsRunningCaller s j) (alone
   job_outcome (Instr.Control control) goes_on passes = record {
     next = steps_by S (Instr.Control control) n;
     paid = passes;
-    own = own_told S s j calls alone excludes seen registers used all (Instr.Control control) goes_on;
+    own =
+        own_told S s j calls alone excludes seen registers used all (Instr.Control control)
+        goes_on;
     held = λ awake k there.
         control_held S s j calls alone seen.long registers used control
         (of_job (switch_of (e (Instr.Control control))) k);

@@ -14,6 +14,7 @@ pub mod Sound
 pub mod Closing
 pub mod Masks
 pub mod MaskSums
+pub mod Leaving
 pub mod Gains
 pub mod EarlyLemmas
 pub mod Pricing

@@ -24,7 +24,7 @@ use Rattle.law_nodes.specs.Values.{know_no_more}
 use Rattle.law_nodes.proofs.Counting.{HasCounted, staying_at}
 use Rattle.law_nodes.proofs.Priorities.{counting_at}
 use Rattle.law_nodes.proofs.EarlyLemmas.{early_low, early_step, early_used}
-use Rattle.law_nodes.proofs.Gains.{LeavesAt, LeavesHeld}
+use Rattle.law_nodes.proofs.Leaving.{LeavesAt, LeavesHeld}
 use Rattle.law_nodes.proofs.JobOutcomes.{JobOutcome, job_outcome}
 use Rattle.law_nodes.proofs.Knowing.{AreValues}
 use Rattle.law_nodes.proofs.Owning.{IsOwn, caller_alone}

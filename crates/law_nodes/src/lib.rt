@@ -8,8 +8,8 @@
 //!   a routine *is at* it (`is_at`) that has the same, and in each known register that value.
 //!   Whether a job is begun, and whether its internal resource is taken, isn't looked at. A node
 //!   has *used* events besides: they may be set, and pay for nothing any more. They are those of a
-//!   wait that is over, those that a job sets for its own task and those that GetEvent has shown it,
-//!   up to ClearEvent.
+//!   wait that is over, those that a job sets for its own task and those that GetEvent has shown
+//!   it, up to ClearEvent.
 //! - *Steps* (`steps`) are what may become of who executes its instruction at a node, whatever
 //!   good state that finds (`steps_are_sound`). Plain instructions are exact on known values; a
 //!   word that is loaded isn't known; a jump goes both ways where its registers don't decide.
