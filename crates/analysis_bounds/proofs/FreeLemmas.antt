@@ -1,5 +1,5 @@
 -- What a way on frees is no more than each step may cost more by the law.
-use Rattle.std.proofs.Common.{ℕ, ◌≡◌, ◌≤◌, ◌⊎◌, inl, inr, Bool, true, false, cond, not, ◌&&◌, ◌||◌, nat_le, List, [], ◌∷◌, map, refl, sym, ◌∙◌, ap, subst, arith}
+use Rattle.std.proofs.Common.{ℕ, ◌+◌, ◌≡◌, ◌≤◌, ◌⊎◌, inl, inr, Bool, true, false, cond, not, ◌&&◌, ◌||◌, nat_le, List, [], ◌∷◌, map, refl, sym, ◌∙◌, ap, subst, arith}
 use Rattle.std.specs.Prelude.{Option, Some, None, is_some, bit_and, bit_or, ◌==◌}
 use Rattle.std.specs.List.{AllByRecursion}
 use Rattle.osek_base.specs.declared.ids.Owner.{Owner}
@@ -84,14 +84,14 @@ module _ (S : System) (level : Level) (t : ℕ) (n : Node) where
   going_on w = go (holds_events S p t)
     where
       inside : (b v : Bool) → v ≡ true
-          → cond b (least_in (held t) w) 0 ≤ cond (b && v) (least_in (held t) w) 0
+          → cond b (least_in (held t) w) 0 ≤ cond (b && v) (least_in (held t) w) 0 + 0
       inside true true h = omega arith
       inside true false h = clash (sym h)
       inside false v h = omega arith
 
       go : (b : Bool)
           → cond b (freed_of (held t) (Some w) n.used) 0
-          ≤ cond b (freed_by (held t) (Some w) n.used (bit_or n.used w)) 0
+          ≤ cond b (freed_by (held t) (Some w) n.used (bit_or n.used w) + 0) 0
       go true =
           inside (is_mask w && bit_and w n.used == 0) (is_within w (bit_or n.used w))
           (within_or n.used w)
@@ -99,7 +99,7 @@ module _ (S : System) (level : Level) (t : ℕ) (n : Node) where
 
   awaits : (w : ℕ) (k : Node) → k.used ≡ n.used
       → AreFreed (Instr.Service (Service.WaitEvent w))
-      (freed (Instr.Service (Service.WaitEvent w))) (job_granted (Service.WaitEvent w) k)
+      (freed (Instr.Service (Service.WaitEvent w))) (job_granted S (Service.WaitEvent w) k)
   awaits w k same = (
     λ counts.
         subst
@@ -113,16 +113,16 @@ module _ (S : System) (level : Level) (t : ℕ) (n : Node) where
   -- ---- by each answer
 
   granted : (call : ServiceCall) (k : Node) → k.used ≡ n.used
-      → AreFreed (Instr.Service call) (freed (Instr.Service call)) (job_granted call k)
+      → AreFreed (Instr.Service call) (freed (Instr.Service call)) (job_granted S call k)
   granted call k same = elim (waits_or_not call) [
     | inl wait ↦
         subst
         (λ (e : ServiceCall). AreFreed (Instr.Service e) (freed (Instr.Service e))
-        (job_granted e k))
+        (job_granted S e k))
         (sym wait.1) (awaits wait.0 k same)
     | inr none ↦
         no_more (Instr.Service call) (freed (Instr.Service call))
-        (freed_none (Instr.Service call) none) (job_granted call k)
+        (freed_none (Instr.Service call) none) (job_granted S call k)
   ]
 
   answered : n.owner ≡ Owner.Task t → (call : ServiceCall) (o : Option Status)
@@ -132,7 +132,7 @@ module _ (S : System) (level : Level) (t : ℕ) (n : Node) where
   answered is call None =
       subst
       (λ (who : Owner). AreFreed (Instr.Service call) (freed (Instr.Service call))
-      (granted_by who call
+      (granted_by S who call
       (answered_node Status.Ok (results_of S n.owner (caller_at n) call) n)))
       (sym is)
       (granted call (answered_node Status.Ok (results_of S n.owner (caller_at n) call) n) refl)

@@ -5,6 +5,7 @@ ghost use Rattle.std.specs.Prelude.{ℕ, ◌≡◌, ◌<◌, IfOk, map};
 ghost use Rattle.osek_base.specs.declared.instr.Service.{Service};
 ghost use Rattle.osek_base.specs.declared.limits.TheConstants.{MAX_INSTRUCTIONS};
 ghost use Rattle.osek_base.specs.Lists.{without_last};
+ghost use Rattle.osek_base.specs.System.{System};
 ghost use Rattle.law_nodes.specs.Services.{granted_by, job_granted, replied, set_by};
 ghost use Rattle.analysis_nodes.specs.Nodes.{node_by};
 ghost use Rattle.analysis_nodes.specs.Outcomes.{start_by, start_where};
@@ -12,6 +13,7 @@ ghost use Rattle.analysis_nodes.specs.Outcomes.{start_by, start_where};
 use crate::node::Node;
 use crate::outcome::Start;
 use crate::results::{Known, answered_node, results_of};
+use crate::showing::with_shown;
 use crate::stepping::{alone, both, copied};
 use osek_base::{
     AlarmId, MAX_INSTRUCTIONS, Owner, Register, ResId, Service, Status, System, TaskId,
@@ -20,8 +22,8 @@ use std::alloc::{AllocError, Global};
 
 /// A job that chains a task ends.
 fn chained(alloc: Global, node: Node, task: Option<TaskId>) -> Result<Vec<Node>, AllocError>
-    ensures { IfOk result (λ nodes. map node_by nodes.items
-        ≡ job_granted (Service.ChainTask task) (node_by node)) }
+    ensures { (S : System) → IfOk result (λ nodes. map node_by nodes.items
+        ≡ job_granted S (Service.ChainTask task) (node_by node)) }
 {
     match task {
         None => alone(alloc, node),
@@ -35,8 +37,8 @@ fn with_resource(
     node: Node,
     resource: &Option<ResId>,
 ) -> Result<Vec<Node>, AllocError>
-    ensures { IfOk result (λ nodes. map node_by nodes.items
-        ≡ job_granted (Service.GetResource resource.now) (node_by node)) }
+    ensures { (S : System) → IfOk result (λ nodes. map node_by nodes.items
+        ≡ job_granted S (Service.GetResource resource.now) (node_by node)) }
 {
     match resource {
         None => alone(alloc, node),
@@ -61,8 +63,8 @@ fn without_resource(
     node: Node,
     resource: &Option<ResId>,
 ) -> Result<Vec<Node>, AllocError>
-    ensures { IfOk result (λ nodes. map node_by nodes.items
-        ≡ job_granted (Service.ReleaseResource resource.now) (node_by node)) }
+    ensures { (S : System) → IfOk result (λ nodes. map node_by nodes.items
+        ≡ job_granted S (Service.ReleaseResource resource.now) (node_by node)) }
 {
     match resource {
         None => alone(alloc, node),
@@ -97,8 +99,8 @@ fn with_set(
     task: Option<TaskId>,
     mask: u32,
 ) -> Result<Vec<Node>, AllocError>
-    ensures { IfOk result (λ nodes. map node_by nodes.items
-        ≡ job_granted (Service.SetEvent task mask) (node_by node)) }
+    ensures { (S : System) → IfOk result (λ nodes. map node_by nodes.items
+        ≡ job_granted S (Service.SetEvent task mask) (node_by node)) }
 {
     match task {
         None => alone(alloc, node),
@@ -112,8 +114,8 @@ fn with_set(
 
 /// A job clears events.
 fn without_events(alloc: Global, node: Node, mask: u32) -> Result<Vec<Node>, AllocError>
-    ensures { IfOk result (λ nodes. map node_by nodes.items
-        ≡ job_granted (Service.ClearEvent mask) (node_by node)) }
+    ensures { (S : System) → IfOk result (λ nodes. map node_by nodes.items
+        ≡ job_granted S (Service.ClearEvent mask) (node_by node)) }
 {
     let mut node = node;
     node.used = node.used ^ (node.used & mask);
@@ -122,8 +124,8 @@ fn without_events(alloc: Global, node: Node, mask: u32) -> Result<Vec<Node>, All
 
 /// A job goes on or waits. Where it goes on, what it would wait for is used.
 fn awaiting(alloc: Global, node: Node, mask: u32) -> Result<Vec<Node>, AllocError>
-    ensures { IfOk result (λ nodes. map node_by nodes.items
-        ≡ job_granted (Service.WaitEvent mask) (node_by node)) }
+    ensures { (S : System) → IfOk result (λ nodes. map node_by nodes.items
+        ≡ job_granted S (Service.WaitEvent mask) (node_by node)) }
 {
     let mut waiting = copied(alloc, &node)?;
     waiting.waits_for = Some(mask);
@@ -133,14 +135,16 @@ fn awaiting(alloc: Global, node: Node, mask: u32) -> Result<Vec<Node>, AllocErro
 }
 
 /// What a job becomes by a service that isn't refused, once that is answered: no node where it
-/// ends, and where it may wait, two.
+/// ends, where it may wait, two, and where it gets the events of its own task, one for each set of
+/// them that it may find.
 fn job_granted(
     alloc: Global,
+    system: &System,
     node: Node,
     service: &Service<Register>,
 ) -> Result<Vec<Node>, AllocError>
     ensures { IfOk result (λ nodes. map node_by nodes.items
-        ≡ job_granted service.now (node_by node)) }
+        ≡ job_granted system.now service.now (node_by node)) }
 {
     match *service {
         Service::TerminateTask => Ok(Vec::new(alloc)),
@@ -149,6 +153,7 @@ fn job_granted(
         Service::ReleaseResource(resource) => without_resource(alloc, node, &resource),
         Service::SetEvent(task, mask) => with_set(alloc, node, task, mask),
         Service::ClearEvent(mask) => without_events(alloc, node, mask),
+        Service::GetEvent(task) => with_shown(alloc, system, node, task),
         Service::WaitEvent(mask) => awaiting(alloc, node, mask),
         _ => alone(alloc, node),
     }
@@ -157,15 +162,16 @@ fn job_granted(
 /// The same of a routine too, which goes on.
 fn granted_by(
     alloc: Global,
+    system: &System,
     owner: Owner,
     node: Node,
     service: &Service<Register>,
 ) -> Result<Vec<Node>, AllocError>
     ensures { IfOk result (λ nodes. map node_by nodes.items
-        ≡ granted_by owner service.now (node_by node)) }
+        ≡ granted_by system.now owner service.now (node_by node)) }
 {
     match owner {
-        Owner::Task(_) => job_granted(alloc, node, service),
+        Owner::Task(_) => job_granted(alloc, system, node, service),
         Owner::Routine(_) => alone(alloc, node),
     }
 }
@@ -186,7 +192,7 @@ pub(crate) fn replied(
         None => {
             let found = results_of(system, node, service);
             let next = answered_node(alloc, node, Status::Ok, found)?;
-            granted_by(alloc, node.owner, next, service)
+            granted_by(alloc, system, node.owner, next, service)
         }
         Some(status) => {
             let next = answered_node(alloc, node, status, Known::Nothing)?;

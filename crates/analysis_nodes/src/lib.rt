@@ -37,6 +37,8 @@ mod outcome;
 mod plain;
 mod refusals;
 mod results;
+mod settable;
+mod showing;
 mod stepping;
 mod switch;
 mod telling;

@@ -19,6 +19,7 @@ use Rattle.law_costs.specs.Known.{Executes, at_instruction, behind_by}
 use Rattle.law_costs.specs.Left.{Switch, switch_of}
 use Rattle.law_costs.proofs.InTicks.{at_form, at_is, executed_is, executing, goes_on}
 use Rattle.law_costs.proofs.Routines.{same_routine}
+use Rattle.law_costs.proofs.SettableTick.{at_settable}
 use Rattle.law_analysis.specs.Lengths.{IsActiveAs, Lasts}
 
 -- a routine is active, as it stands and with that switch
@@ -109,6 +110,7 @@ module _ (S : System) (mode : ℕ) (arrivals : List Arrival) (proper : IsProper 
         calls = calls;
         excludes = λ enabled r takes. clash (sym takes);
         entered = tt;
+        within = at_settable S proper mode arrivals n going;
         goes_on =
             sym (ap (λ (e : State). e.over) (executed_is S (at n) (RoutineCalls a) calls))
             ∙ goes_on S proper mode arrivals n later;

@@ -23,6 +23,7 @@ use Rattle.law_costs.proofs.Instructions.{PayForRunJobs, PayForRunRoutines}
 use Rattle.law_costs.proofs.InTicks.{at_form, at_is, executing, goes_on}
 use Rattle.law_costs.proofs.JobsKeep.{Each, activated_keeps}
 use Rattle.law_costs.proofs.KnownTick.{HasKnown, IsKnownThere, before_known, executes, job_known, known_lasts, reschedule_known, routine_known, tick_known}
+use Rattle.law_costs.proofs.SettableTick.{at_settable, run_settable}
 
 module _ (S : System) (known : Known) (proper : IsProper S) (stays : StaysKnown S known) where
   -- ---- boot
@@ -72,6 +73,7 @@ module _ (S : System) (known : Known) (proper : IsProper S) (stays : StaysKnown 
           subst (HasKnown S known) (sym (state_more S mode arrivals n going))
           (tick_known S known proper stays (arriving arrivals n) (here n)
           (run_ordered S proper mode arrivals n) (run_form S proper mode arrivals n) kept
+          (run_settable S mode arrivals n)
           (ap (λ s. (execute_phase S s).state.over) (at_is S proper mode arrivals n going)
           ∙ goes_on S proper mode arrivals n later))
 
@@ -125,7 +127,8 @@ module _ (S : System) (known : Known) (proper : IsProper S) (stays : StaysKnown 
         executes S known proper stays (at_instruction S mode arrivals n)
         (executing S proper mode arrivals n (going n later))
         (at_form S proper mode arrivals n (going n later)) (at_entered n (going n later))
-        (at_known n (going n later)) (goes_on S proper mode arrivals n later) who is
+        (at_known n (going n later)) (at_settable S proper mode arrivals n (going n later))
+        (goes_on S proper mode arrivals n later) who is
 
     pub known_jobs_pay : (p : ℕ) (c : Weights) → PayForJobs S p c known
         → PayForRunJobs S mode arrivals p c

@@ -23,12 +23,14 @@ use Rattle.law_runs.proofs.SingleTick.{execute_single}
 use Rattle.law_costs.specs.Left.{Switch, is_off, switch_for, switch_of}
 use Rattle.law_costs.specs.Known.{Executes, IsKnownJob, IsKnownRoutine, Known, StaysKnown, TakesInternal}
 use Rattle.law_costs.specs.Jobs.{behind}
+use Rattle.law_costs.specs.Settable.{AreSettable}
 use Rattle.law_costs.proofs.Entered.{HasTaken, IsEntered, StaysTaken, before_entered, own_taken, taken_lasts}
 use Rattle.law_costs.proofs.Excluding.{excludes_others}
 use Rattle.law_costs.proofs.InstructionKeeps.{job_keeps, routine_keeps}
 use Rattle.law_costs.proofs.InTicks.{executed_is}
 use Rattle.law_costs.proofs.JobsKeep.{Each, Lasts, alarm_phase_keeps, reschedule_keeps, start_keeps}
 use Rattle.law_costs.proofs.JobTakes.{behind_active, behind_running, own_switch}
+use Rattle.law_costs.proofs.SettableTick.{before_settable}
 use Rattle.law_costs.proofs.Switches.{dispatching}
 
 module _ (S : System) (known : Known) where
@@ -184,7 +186,8 @@ module _ (S : System) (known : Known) where
       who_taken (RoutineCalls a) calls = tt
       who_taken NobodyCalls calls = tt
 
-      module _ (goes_on : (execute_phase S s).state.over ≡ false) where
+      module _ (within : AreSettable S s.masks)
+          (goes_on : (execute_phase S s).state.over ≡ false) where
         pub executes : (who : Caller) → executor s ≡ who → Executes S who s
         executes who is = record {
           good = good_state S s executing.good form;
@@ -194,6 +197,7 @@ module _ (S : System) (known : Known) where
               excludes_others S proper s executing who
               (subst (IsCaller s) is (executor_calls s));
           entered = who_taken who (subst (IsCaller s) is (executor_calls s));
+          within = within;
           goes_on = sym (ap (λ (e : State). e.over) (executed_is S s who is)) ∙ goes_on;
         }
 
@@ -239,12 +243,13 @@ module _ (S : System) (known : Known) where
     -- ---- the tick
 
     pub tick_known : (arrived : List ℕ) (s : State) → IsRunState S s → HasForm S s → HasKnown s
+        → AreSettable S s.masks
         → (execute_phase S (before_execution S arrived s).state).state.over ≡ false
         → HasKnown (tick S arrived s).after
     unfolding tick
-    tick_known arrived s good form here goes_on =
+    tick_known arrived s good form here within goes_on =
         let last =
         from_known (before_execution S arrived s).state (before_executing S proper arrived s good)
         (before_form S proper arrived s form) (before_entered S arrived s)
-        (before_known arrived s good here) goes_on in
+        (before_known arrived s good here) (before_settable S arrived s within) goes_on in
         record { jobs = last.jobs; active = last.active; taken = last.taken }

@@ -30,6 +30,8 @@ pub mod Executor
 pub mod Jobs
 pub mod Excluding
 pub mod Entered
+pub mod Settable
+pub mod SettableTick
 pub mod KnownTick
 pub mod Waiting
 pub mod Unmet

@@ -14,6 +14,7 @@ use Rattle.osek_base.specs.Tick.{caller_executes, executor}
 use Rattle.law_blockers.specs.Steps.{step_at}
 use Rattle.law_windows.specs.Routines.{begun}
 use Rattle.law_costs.specs.Left.{Switch, on, switch_of}
+use Rattle.law_costs.specs.Settable.{AreSettable}
 
 -- ---- tests
 
@@ -52,13 +53,15 @@ TakesInternal S (JobCalls j) = j.taken ≡ is_some (internal_ceiling S j.id.task
 TakesInternal S (RoutineCalls a) = Unit {0}
 TakesInternal S NobodyCalls = Unit {0}
 
--- that caller executes in a good state, and the run isn't over behind it
+-- that caller executes in a good state, in which no event is set that isn't settable, and the run
+-- isn't over behind it
 pub record Executes (S : System) (who : Caller) (s : State) : Type 0 where
   pub good : IsGood S s
   pub shaped : IsShaped S s
   pub calls : executor s ≡ who
   pub excludes : ExcludesOthers S who s
   pub entered : TakesInternal S who
+  pub within : AreSettable S s.masks
   pub goes_on : (behind_by S who s).over ≡ false
 
 -- ---- what is known stays known

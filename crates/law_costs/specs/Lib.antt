@@ -1,4 +1,5 @@
 pub mod Left
+pub mod Settable
 pub mod Known
 pub mod Paying
 pub mod Routines

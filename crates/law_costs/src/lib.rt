@@ -14,7 +14,8 @@
 //!   What is known *stays known* (`StaysKnown`) where all that begins passes, and what passed does
 //!   behind its instruction too, whatever good state that finds. Then who executes in a run is
 //!   known (`runs_are_known`). With interrupts on nobody but who executes holds a resource that it
-//!   may take, and a job that executes has taken its internal resource (`Executes`).
+//!   may take, a job that executes has taken its internal resource, and no event is set for a task
+//!   but those that programs and alarms may set for it (`Executes`, `settable`).
 //! - Costs *pay* (`Pay`) where an interrupt costs at least its routine as it starts, an activation
 //!   a new job, an expiry what its alarm starts, a dispatch nothing or the section that it begins,
 //!   boot what starts with the mode; and events at least the known job that they release, or what

@@ -10,10 +10,10 @@ use Rattle.osek_base.specs.System.{System, Task, is_extended, no_task, priority_
 use Rattle.law_runs.proofs.Lists.{all_kept, clash}
 use Rattle.law_costs.specs.Left.{is_off}
 use Rattle.law_costs.proofs.Totals.{sum_lower}
-use Rattle.law_nodes.specs.Early.{awaited, bits, freed_by, freed_early, held_early, holds_events, is_set, sum_besides, sum_but, sum_of}
+use Rattle.law_nodes.specs.Early.{awaited, bits, freed_by, freed_early, freed_shown, held_early, holds_events, is_set, shows, sum_besides, sum_but, sum_of}
 use Rattle.law_nodes.specs.Nodes.{Node, is_within}
 use Rattle.law_nodes.specs.Prices.{highest, may_count}
-use Rattle.law_nodes.proofs.Gains.{LeavesHeld}
+use Rattle.law_nodes.proofs.Leaving.{LeavesHeld}
 use Rattle.law_nodes.proofs.MaskSums.{but_besides, but_more, but_used, none_but_any}
 
 -- an extended task exists
@@ -53,7 +53,7 @@ module _ (S : System) (p : ℕ) (held : ℕ → ℕ → ℕ) where
 
   -- and no more at a step of a job that doesn't wait
   pub early_step : (t : ℕ) (what : Instr) (before after : ℕ) (n m : Node) → may_count S p m ≡ true
-      → LeavesHeld (awaited what) before after n.used m
+      → LeavesHeld (awaited what) (shows what) before after n.used m
       → early t after m.used + freed_early S p held t what n m ≤ early t before n.used
   early_step t what before after n m count leaves = go (holds_events S p t)
     where
@@ -65,7 +65,8 @@ module _ (S : System) (p : ℕ) (held : ℕ → ℕ → ℕ) where
 
       go : (b : Bool)
           → cond b (sum_but (held t) after m.used) 0
-          + cond b (freed_by (held t) (awaited what) n.used m.used) 0
+          + cond b (freed_by (held t) (awaited what) n.used m.used
+          + freed_shown (held t) (shows what) n.used m.used) 0
           ≤ cond b (sum_but (held t) before n.used) 0
       go true = leaves ready (held t)
       go false = omega arith

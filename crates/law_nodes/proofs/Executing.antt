@@ -25,12 +25,14 @@ use Rattle.law_nodes.proofs.Granting.{changes, granted_told}
 use Rattle.law_nodes.proofs.Knowing.{AreValues}
 use Rattle.law_nodes.proofs.Owning.{IsAlone, IsOwn, caller_alone, own_changed}
 use Rattle.law_nodes.proofs.Refusing.{first_told, refusals_told}
+use Rattle.law_nodes.proofs.Showing.{CanBeShown, can_be_shown, has_shown}
 use Rattle.law_nodes.proofs.Standing.{at_is, node_of}
 use Rattle.law_nodes.proofs.Stepping.{plain_told, told_first}
 use Rattle.law_nodes.proofs.Telling.{job_tells, job_tells_running, told_each}
 
 module _ (S : System) (s : State) (j : Job) (calls : IsRunningCaller s j) (alone : IsAlone s j)
-    (excludes : ExcludesOthers S (JobCalls j) s) (registers : List (Option ℕ)) (used : ℕ)
+    (excludes : ExcludesOthers S (JobCalls j) s) (shows : CanBeShown S s j)
+    (registers : List (Option ℕ)) (used : ℕ)
     (all : AreValues registers j.context.registers) where
   abbrev x : Context
   x = j.context
@@ -83,7 +85,8 @@ module _ (S : System) (s : State) (j : Job) (calls : IsRunningCaller s j) (alone
       (answered_values Status.Ok (results_of S who (caller_by who j.held) call)
       (results S s (at_values x call))
       (results_told S s who (caller_by who j.held) (job_tells_running S s j calls) x call)
-      registers x all) call))
+      registers x all)
+      shows call (has_shown S s x call shows.long)))
 
   served_told : (call : ServiceCall)
       → Own w (served S n call)
@@ -177,7 +180,8 @@ module _ (S : System) (s : State) (j : Job) (executes : Executes S (JobCalls j) 
       (node_of (of_job (switch_of s) j) registers used)))
       (of_job (switch_of behind) k) ≡ true) j.id) behind.jobs)
       (sym alone.ready)
-      (own_told S s j calls_job alone executes.excludes registers used all
+      (own_told S s j calls_job alone executes.excludes
+      (can_be_shown S s j executes calls_job) registers used all
       (instruction_at S (Owner.Task j.id.task) j.context.place) executes.goes_on)
 
   pub job_sound : (n : Node) → is_at n (of_job (switch_of s) j) ≡ true

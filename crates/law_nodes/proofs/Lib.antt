@@ -5,6 +5,7 @@ pub mod Stepping
 pub mod Refusing
 pub mod Answering
 pub mod Owning
+pub mod Showing
 pub mod Granting
 pub mod Telling
 pub mod Executing
@@ -13,6 +14,7 @@ pub mod Sound
 pub mod Closing
 pub mod Masks
 pub mod MaskSums
+pub mod Leaving
 pub mod Gains
 pub mod EarlyLemmas
 pub mod Pricing

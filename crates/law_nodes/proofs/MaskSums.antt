@@ -9,7 +9,7 @@ use Rattle.osek_base.specs.Service.{meets}
 use Rattle.law_runs.proofs.Foremost.{equal}
 use Rattle.law_runs.proofs.Lists.{all_any, clash}
 use Rattle.law_costs.proofs.Totals.{sum_either, sum_within}
-use Rattle.law_nodes.specs.Early.{bits, freed_by, is_mask, is_set, least_in, least_of, lesser, sum_besides, sum_but, sum_of}
+use Rattle.law_nodes.specs.Early.{bits, freed_by, freed_shown, is_mask, is_set, least_in, least_of, lesser, sum_besides, sum_but, sum_of}
 use Rattle.law_nodes.specs.Nodes.{is_within}
 use Rattle.law_nodes.proofs.Masks.{apart, meeting, none_set, set_or, set_within}
 
@@ -253,3 +253,17 @@ module _ (f : ℕ → ℕ) where
           let none : w ≡ 0 =
           sym (equal (bit_and w used) w first.1) ∙ equal (bit_and w used) 0 two.1 in
           ap (least_in f) none
+
+  -- ---- events that are shown
+
+  pub used_free : (m : ℕ) → sum_but f m m ≡ 0
+  used_free m =
+      none_sum f (λ b. is_set m b && not (is_set m b)) bits (λ b. neither (is_set m b))
+    where
+      neither : (c : Bool) → (c && not c) ≡ false
+      neither true = refl
+      neither false = refl
+
+  pub same_shown : (shown : Bool) (used : ℕ) → freed_shown f shown used used ≡ 0
+  same_shown true used = used_free used
+  same_shown false used = refl

@@ -36,7 +36,7 @@ module _ {X : Type 0} where
   each_by_place P (x ∷ xs) f =
       (f zero x refl, each_by_place P xs (λ i y h. f (suc i) y h))
 
-  place_found : (test : X → Bool) (xs : List X) (x : X) → find test xs ≡ Some x
+  pub place_found : (test : X → Bool) (xs : List X) (x : X) → find test xs ≡ Some x
       → (i : ℕ) × (slice_get xs i ≡ Some x)
   place_found test [] x h = absurd (grind arith)
   place_found test (y ∷ xs) x h = go (test y) h (place_found test xs x)

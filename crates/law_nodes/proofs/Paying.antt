@@ -15,18 +15,19 @@ use Rattle.law_runs.proofs.Lists.{all_any, all_weaker, clash, found, none_some, 
 use Rattle.law_costs.specs.Jobs.{PaysIn, behind, left_behind, left_of_own, left_of_section, set, started}
 use Rattle.law_costs.specs.Known.{Executes}
 use Rattle.law_costs.specs.Left.{Switch, Weights, counts, is_off, of_all_alarms, switch_of}
-use Rattle.law_nodes.specs.Early.{awaited, freed_early, held_early}
+use Rattle.law_nodes.specs.Early.{awaited, freed_early, held_early, shows}
 use Rattle.law_nodes.specs.Nodes.{Node, Standing, Table, covers, is_at, is_beside, is_told, is_within, of_job}
 use Rattle.law_nodes.specs.Prices.{Priced, all_outcomes, cost_of, is_paid, job_fits, may_count, node_pays, nodes_pay, pays_by, priced_by, section_behind, stays_counted, table_of, with_held}
 use Rattle.law_nodes.specs.Values.{know_no_more}
 use Rattle.law_nodes.proofs.Counting.{HasCounted, staying_at}
 use Rattle.law_nodes.proofs.Priorities.{counting_at}
 use Rattle.law_nodes.proofs.EarlyLemmas.{early_low, early_step, early_used}
-use Rattle.law_nodes.proofs.Gains.{LeavesHeld}
+use Rattle.law_nodes.proofs.Leaving.{LeavesAt, LeavesHeld}
 use Rattle.law_nodes.proofs.JobOutcomes.{JobOutcome, job_outcome}
 use Rattle.law_nodes.proofs.Knowing.{AreValues}
 use Rattle.law_nodes.proofs.Owning.{IsOwn, caller_alone}
 use Rattle.law_nodes.proofs.Pricing.{paid_within, told_from, told_priced}
+use Rattle.law_nodes.proofs.Showing.{can_be_shown}
 use Rattle.law_nodes.proofs.Standing.{at_is, covered_at, node_of}
 use Rattle.law_nodes.proofs.Tests.{by_any, by_any_of, each_passing, second, unless}
 
@@ -67,7 +68,7 @@ module _ (S : System) (p : ℕ) (c : Weights) (held : ℕ → ℕ → ℕ) (pric
       → (stays_counted S p n ≡ true → HasCounted S p v j.id jobs)
       → ((k : Job) → job_of j.id jobs ≡ Some k → counts S p v k ≡ true
       → AllByRecursion
-      (λ m. may_count S p m ≡ true
+      (λ m. is_at m (of_job v k) ≡ true → may_count S p m ≡ true
       → most + by m + held_early S p held k.id.task (slice_index masks k.id.task) m.used ≤ total)
       next)
       → left_of_own S p costs masks w v (job_of j.id jobs) + more ≤ total
@@ -104,7 +105,7 @@ module _ (S : System) (p : ℕ) (c : Weights) (held : ℕ → ℕ → ℕ) (pric
       paid k there count told =
           by_any_of (cost_there k + more ≤ total) (λ m. is_at m (of_job v k))
           (λ m. not (may_count S p m) || is_paid prices more (most + by m) m)
-          (λ m. may_count S p m ≡ true
+          (λ m. is_at m (of_job v k) ≡ true → may_count S p m ≡ true
           → most + by m + held_early S p held k.id.task (slice_index masks k.id.task) m.used
           ≤ total)
           next
@@ -113,7 +114,7 @@ module _ (S : System) (p : ℕ) (c : Weights) (held : ℕ → ℕ → ℕ) (pric
           let step =
           step_within (of_job v k) k.id.task (slice_index masks k.id.task) more (most + by m) m
           (unless (may_count S p m) (is_paid prices more (most + by m) m) counting h) at in
-          let less = within counting in
+          let less = within at counting in
           omega (arith, step, less)))
           told both.0 (each k there count)
 
@@ -173,7 +174,8 @@ module _ (S : System) (p : ℕ) (c : Weights) (held : ℕ → ℕ → ℕ) (pric
         → Found pays used
     outcome_at pays registers used all passes =
         let alone = caller_alone S s j executes.good calls_job in
-        job_outcome S s j calls_job alone executes.excludes registers used all costs pays what
+        job_outcome S s j calls_job alone executes.excludes
+        (can_be_shown S s j executes calls_job) registers used all costs pays what
         executes.goes_on
         (second (is_some j.waits_for)
         (all_outcomes S c pays what (node_of (of_job w j) registers used))
@@ -232,17 +234,20 @@ module _ (S : System) (p : ℕ) (c : Weights) (held : ℕ → ℕ → ℕ) (pric
         got.own (omega arith) (staying_at S p s j executes q.node at)
         (λ k there counting.
         all_weaker
-        (LeavesHeld (awaited what) mask (slice_index e.masks j.id.task) q.node.used)
-        (λ m. may_count S p m ≡ true
+        (LeavesAt (of_job (switch_of e) k) (awaited what) (shows what) mask
+        (slice_index e.masks j.id.task) q.node.used)
+        (λ m. is_at m (of_job (switch_of e) k) ≡ true → may_count S p m ≡ true
         → q.cost + by m + held_early S p held k.id.task (slice_index e.masks k.id.task) m.used
         ≤ cost_at q)
-        got.next (λ m leaves may. step k there m may leaves) (got.held (awake k there counting)))
+        got.next (λ m leaves at may. step k there m may (leaves at))
+        (got.held (awake k there counting) k there))
       where
         by : Node → ℕ
         by m = freed_early S p held j.id.task what q.node m
 
         step : (k : Job) → job_of j.id e.jobs ≡ Some k → (m : Node) → may_count S p m ≡ true
-            → LeavesHeld (awaited what) mask (slice_index e.masks j.id.task) q.node.used m
+            → LeavesHeld (awaited what) (shows what) mask (slice_index e.masks j.id.task)
+            q.node.used m
             → q.cost + by m
             + held_early S p held k.id.task (slice_index e.masks k.id.task) m.used ≤ cost_at q
         step k there m may leaves =
@@ -277,12 +282,12 @@ module _ (S : System) (p : ℕ) (c : Weights) (held : ℕ → ℕ → ℕ) (pric
         got.own (omega arith) (staying_at S p s j executes q.node at)
         (λ k there counting.
         all_any
-        (λ m. may_count S p m ≡ true
+        (λ m. is_at m (of_job (switch_of e) k) ≡ true → may_count S p m ≡ true
         → c.costs.at_begin + 0
         + held_early S p held k.id.task (slice_index e.masks k.id.task) m.used
         ≤ c.costs.at_begin)
         got.next
-        (λ m may.
+        (λ m at may.
         (let none =
         early_low S p held k.id.task (slice_index e.masks k.id.task) m.used
         (subst (λ (i : JobId). priority_of S i.task < p) (sym (itself k there)) low) in

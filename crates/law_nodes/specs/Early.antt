@@ -1,5 +1,5 @@
 -- Events that are set early hold what follows the wait that goes on by them.
-use Rattle.std.specs.Prelude.{ℕ, ◌^◌, Bool, not, ◌&&◌, ◌==◌, nat_le, nat_lt, min, if◌then◌else◌, List, [], ◌∷◌, Option, Some, None, unwrap_or, bit_and}
+use Rattle.std.specs.Prelude.{ℕ, ◌+◌, ◌^◌, Bool, true, false, not, ◌&&◌, ◌==◌, nat_le, nat_lt, min, if◌then◌else◌, List, [], ◌∷◌, Option, Some, None, unwrap_or, bit_and}
 use Rattle.std.specs.Int.{bit_at}
 use Rattle.std.specs.List.{filter, sum_by}
 use Rattle.osek_base.specs.declared.instr.Instr.{Instr}
@@ -66,6 +66,22 @@ freed_by cost None used next = 0
 freed_by cost (Some m) used next =
     if is_mask m && bit_and m used == 0 && is_within m next then least_in cost m else 0
 
+-- ---- events that are shown
+
+-- whether an instruction gets the events of a task
+abbrev pub shows : Instr → Bool
+shows (Instr.Service (Service.GetEvent (Some t))) = true
+shows what = false
+
+-- what is set of its own task is used then: what wasn't isn't held any more
+abbrev pub freed_shown : (ℕ → ℕ) → Bool → ℕ → ℕ → ℕ
+freed_shown cost shown used next = if shown then sum_but cost next used else 0
+
+-- ---- what a step may cost more
+
 abbrev pub freed_early : System → ℕ → (ℕ → ℕ → ℕ) → ℕ → Instr → Node → Node → ℕ
 freed_early S p held t what n next =
-    if holds_events S p t then freed_by (held t) (awaited what) n.used next.used else 0
+    if holds_events S p t
+    then freed_by (held t) (awaited what) n.used next.used
+    + freed_shown (held t) (shows what) n.used next.used
+    else 0

@@ -1,10 +1,11 @@
 pub mod Values
 pub mod Nodes
+pub mod Early
+pub mod Shown
 pub mod Services
 pub mod Steps
 pub mod Closed
 pub mod Laws
-pub mod Early
 pub mod Prices
 pub mod Setting
 pub mod Paid

@@ -17,6 +17,7 @@ use Rattle.osek_base.specs.Tick.{status_number}
 use Rattle.osek_base.specs.Types.{ServiceCall}
 use Rattle.law_costs.specs.Left.{is_off}
 use Rattle.law_nodes.specs.Nodes.{Node}
+use Rattle.law_nodes.specs.Shown.{shown_to}
 use Rattle.law_nodes.specs.Values.{known, of_known}
 
 -- ---- at a node
@@ -182,29 +183,31 @@ set_by (Owner.Task u) t m used = if u == t then bit_or used m else used
 set_by (Owner.Routine i) t m used = used
 
 -- what a job becomes by a service that isn't refused, once that is answered: no node where it ends,
--- and where it may wait, two. Where it goes on, what it would wait for is used then
-abbrev pub job_granted : ServiceCall → Node → List Node
-job_granted Service.TerminateTask n = []
-job_granted (Service.ChainTask (Some t)) n = []
-job_granted (Service.GetResource (Some r)) n = record n { held = n.held ++ r ∷ [] } ∷ []
-job_granted (Service.ReleaseResource (Some r)) n = record n { held = without_last n.held } ∷ []
-job_granted (Service.SetEvent (Some t) m) n =
+-- and where it may wait, two. Where it goes on, what it would wait for is used then. Where it gets
+-- the events of its own task, one for each set of them that it may find
+abbrev pub job_granted : System → ServiceCall → Node → List Node
+job_granted S Service.TerminateTask n = []
+job_granted S (Service.ChainTask (Some t)) n = []
+job_granted S (Service.GetResource (Some r)) n = record n { held = n.held ++ r ∷ [] } ∷ []
+job_granted S (Service.ReleaseResource (Some r)) n = record n { held = without_last n.held } ∷ []
+job_granted S (Service.SetEvent (Some t) m) n =
     record n { used = set_by n.owner t m n.used } ∷ []
-job_granted (Service.ClearEvent m) n =
+job_granted S (Service.ClearEvent m) n =
     record n { used = bit_xor n.used (bit_and n.used m) } ∷ []
-job_granted (Service.WaitEvent m) n =
+job_granted S (Service.WaitEvent m) n =
     record n { used = bit_or n.used m } ∷ record n { waits_for = Some m } ∷ []
-job_granted _ n = n ∷ []
+job_granted S (Service.GetEvent (Some t)) n = shown_to n.owner S t n
+job_granted S _ n = n ∷ []
 
 -- a routine goes on
-abbrev pub granted_by : Owner → ServiceCall → Node → List Node
-granted_by (Owner.Task t) call n = job_granted call n
-granted_by (Owner.Routine i) call n = n ∷ []
+abbrev pub granted_by : System → Owner → ServiceCall → Node → List Node
+granted_by S (Owner.Task t) call n = job_granted S call n
+granted_by S (Owner.Routine i) call n = n ∷ []
 
 -- where a refusal is the first that applies, and where none is
 abbrev pub replied : System → Node → ServiceCall → Option Status → List Node
 replied S n call None =
-    granted_by n.owner call
+    granted_by S n.owner call
     (answered_node Status.Ok (results_of S n.owner (caller_at n) call) n)
 replied S n call (Some refusal) = answered_node refusal Nothing n ∷ []
 

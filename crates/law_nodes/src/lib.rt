@@ -8,7 +8,8 @@
 //!   a routine *is at* it (`is_at`) that has the same, and in each known register that value.
 //!   Whether a job is begun, and whether its internal resource is taken, isn't looked at. A node
 //!   has *used* events besides: they may be set, and pay for nothing any more. They are those of a
-//!   wait that is over and those that a job sets for its own task, up to ClearEvent.
+//!   wait that is over, those that a job sets for its own task and those that GetEvent has shown
+//!   it, up to ClearEvent.
 //! - *Steps* (`steps`) are what may become of who executes its instruction at a node, whatever
 //!   good state that finds (`steps_are_sound`). Plain instructions are exact on known values; a
 //!   word that is loaded isn't known; a jump goes both ways where its registers don't decide.
@@ -17,8 +18,9 @@
 //!   holds, INVALID, times in known registers. So a resource that the task may take is refused
 //!   where the job holds it, and nowhere else: with interrupts on no other job does. The state
 //!   decides whether another task has as many jobs as it may, or none, and whether an alarm is in
-//!   use. WaitEvent goes on or waits. There is no step where a job or a routine ends or the run is
-//!   over.
+//!   use. WaitEvent goes on or waits. GetEvent of a job's own task, for which at most four events
+//!   are settable, has a step for each set of them: r1 is known there, and they are used
+//!   (`shown_to`). There is no step where a job or a routine ends or the run is over.
 //! - A table is *closed* (`is_closed`) if it covers each task and routine as it begins, each step
 //!   of each of its nodes, and where that waits, the node behind the wait. A node covers one that
 //!   is the same, but in registers that it doesn't know and events that it alone has used. So a
@@ -41,7 +43,8 @@
 //!   refused then, and who executes has taken its internal resource. Of a task below the level, no
 //!   more is left than may be where a window begins, whatever alarms are set. Behind a WaitEvent
 //!   that goes on, where none of its events was used, a step may cost more by the least that one of
-//!   them holds (`freed_early`). So costs pay for all instructions of whom the table tells
+//!   them holds, and behind a GetEvent by what those hold that are shown there and weren't used
+//!   (`freed_early`). So costs pay for all instructions of whom the table tells
 //!   (`nodes_pay_for_all`).
 //! - Prices pay (`prices_pay`) where besides each is 1 at least, and is paid by what begins there:
 //!   an activation, an interrupt, a dispatch, and each event that a node waits for, with all that
