@@ -5,7 +5,7 @@
 //! The costs are any functions (`Weights`): of the active routine as it stands, of a job as it
 //! stands and by the events that are set for its task, of an activation, of events that are set, of
 //! an alarm that is set, of an interrupt and of an expiry. *Left* in a state is that of the active
-//! routine, of each pending one, of each alarm that is set, and of each job that *counts*: it
+//! routine, of each pending one of the level, of each alarm that is set, and of each job that *counts*: it
 //! doesn't wait, and is of the level, or a lower one in a section, by its dynamic priority or with
 //! interrupts off. Where none counts, the greatest section that a dispatch may begin stands for
 //! them.
@@ -15,8 +15,8 @@
 //!   behind its instruction too, whatever good state that finds. Then who executes in a run is
 //!   known (`runs_are_known`). With interrupts on nobody but who executes holds a resource that it
 //!   may take, and a job that executes has taken its internal resource (`Executes`).
-//! - Costs *pay* (`Pay`) where an interrupt costs at least its routine as it starts, an activation
-//!   a new job, an expiry what its alarm starts, a dispatch nothing or the section that it begins,
+//! - Costs *pay* (`Pay`) where an interrupt of a routine of the level costs at least that routine
+//!   as it starts, an activation a new job, an expiry what its alarm starts, a dispatch nothing or the section that it begins,
 //!   boot what starts with the mode; and events at least the known job that they release, or what
 //!   more is left by them of one that doesn't wait. Of a task below the level, events that are set
 //!   change nothing. Then alarms, arrivals, dispatches and starts of routines add no more than what
@@ -27,7 +27,10 @@
 //!   window begins, any of them may be set.
 //! - Of known routines that is one inequality for each instruction, whatever good state it finds:
 //!   what it leaves of the routine, and what it starts and sets where it isn't refused, is one less
-//!   at least (`PayForRoutines`).
+//!   at least (`PayForRoutines`). A routine below the level is a section of those of it, as
+//!   routines don't nest: what it leaves, with the section of a dispatch and all alarms, is no more
+//!   than may be where a window begins. It starts where none of the level is pending, so its first
+//!   instruction is in no window.
 //! - Of known jobs it is the same, where the job counts: so whatever it does with its events, which
 //!   it may clear, or go on by where it would wait. And of a task below the level, in a section or
 //!   not, what it leaves and starts, and all alarms, are no more than may be where a window begins
