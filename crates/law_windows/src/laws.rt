@@ -51,8 +51,8 @@ pub fn responses_lie_in_windows()
     ensures { ResponsesLieInWindows }
 {}
 
-/// Where a routine of a level starts before as many ticks have passed as a rule keeps its interrupts
-/// apart, period + 1 - slack, none of them is lost.
+/// Where a routine of a level starts before as many ticks have passed as a rule keeps its
+/// interrupts apart, period + 1 - slack, none of them is lost.
 pub fn soon_started_are_not_lost()
     ensures { SoonStartedAreNotLost }
 {}
