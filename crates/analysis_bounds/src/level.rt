@@ -1,7 +1,7 @@
 //! What is counted of a level.
 
-/// Costs of a level: of its routines, and of the tasks from a static priority upward. All are counts
-/// of instructions, so ticks.
+/// Costs of a level: of its routines, and of the tasks from a static priority upward. All are
+/// counts of instructions, so ticks.
 #[derive(Drop)]
 pub struct Level {
     /// Its number: the least static priority of its tasks, or above all tasks that of its routines.

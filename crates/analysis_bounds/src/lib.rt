@@ -4,9 +4,10 @@
 //!
 //! - Of each level, a static priority or above them one of a routine, is worked out what
 //!   activations, events, interrupts, expiries and nodes cost, by longest ways through the graph,
-//!   and how many ticks are enough for its windows. Nothing is proved of that but safety. What it comes to is checked, and what is proved
-//!   of the checks is all that counts. Alarms that programs set, and never to a cycle, may pay when
-//!   they are set and not each time that they expire: each level is counted both ways.
+//!   and how many ticks are enough for its windows. Nothing is proved of that but safety. What it
+//!   comes to is checked, and what is proved of the checks is all that counts. Alarms that
+//!   programs set, and never to a cycle, may pay when they are set and not each time that they
+//!   expire: each level is counted both ways.
 //! - `prices_pay`: at true prices pay as the laws ask, and each node has one. `alarms_of`,
 //!   `are_slow`: where that is known, alarms are set and expire no sooner. `are_enough`: at true so
 //!   many ticks are enough for all that can come.

@@ -11,7 +11,11 @@ use osek_base::{Action, Alarm, Instr, Line, Register, Routine, Service, System, 
 fn where_own(task: TaskId, other: TaskId, mask: u32) -> u32
     ensures { result ≡ set_for task (Service.SetEvent (Some other) mask) }
 {
-    if other.number() == task.number() { mask } else { 0 }
+    if other.number() == task.number() {
+        mask
+    } else {
+        0
+    }
 }
 
 /// What a service sets for a task.

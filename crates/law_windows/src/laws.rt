@@ -46,13 +46,13 @@ pub fn little_comes()
 {}
 
 /// Where no window of a level has more than so many ticks, no job of the level is READY or RUNNING
-/// so many ticks after it became ready, and no routine is pending so long.
+/// so many ticks after it became ready, and no routine of the level is pending so long.
 pub fn responses_lie_in_windows()
     ensures { ResponsesLieInWindows }
 {}
 
-/// Where a routine starts before as many ticks have passed as a rule keeps its interrupts apart,
-/// period + 1 - slack, none of them is lost.
+/// Where a routine of a level starts before as many ticks have passed as a rule keeps its
+/// interrupts apart, period + 1 - slack, none of them is lost.
 pub fn soon_started_are_not_lost()
     ensures { SoonStartedAreNotLost }
 {}

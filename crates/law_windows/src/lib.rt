@@ -2,15 +2,16 @@
 //! level, whatever interrupts come that keep their rules, where the work of the level can be
 //! counted.
 //!
-//! A *level* is a static priority: its *work* is of all routines and of the tasks of that priority
-//! or more. A tick is *busy* where work stands at its instruction: a routine is active or pending,
-//! or such a job is READY or RUNNING. A *window* is a longest row of busy ticks behind each of
-//! which, but the last, work stands.
+//! A *level* is a number: a static priority of tasks, or above all of them that of a routine, top +
+//! 1 + its PRIORITY. Its *work* is of the tasks of that priority or more, and of the routines of
+//! that level or more, which all are up to top + 1. A tick is *busy* where work stands at its
+//! instruction: such a routine is active or pending, or such a job is READY or RUNNING. A *window*
+//! is a longest row of busy ticks behind each of which, but the last, work stands.
 //!
 //! - A tick before which work stands is busy (`work_stays`). A response lies in one window
 //!   (`busy_ticks_lie_in_windows`, `responses_lie_in_windows`), and so does the time for which an
-//!   interrupt is pending. So none is lost where windows are shorter than a rule keeps its
-//!   interrupts apart (`soon_started_are_not_lost`).
+//!   interrupt of a routine of the level is pending. So none is lost where windows are shorter than
+//!   a rule keeps its interrupts apart (`soon_started_are_not_lost`).
 //! - A *potential* of a run is a number between two ticks, at least 1 where work stands, that
 //!   falls in each busy tick but for what comes in it: costs of interrupts and of expiries of
 //!   alarms. A window that begins with so much and in which so much comes has no more ticks than
