@@ -23,4 +23,4 @@ mod system;
 mod worst_cases;
 
 pub use output::store_page;
-pub use page::write_report;
+pub use page::{write_counted_report, write_report};
