@@ -227,7 +227,7 @@ pub(crate) fn write_bounds<O: Write>(
     out.write_all(b"<section id=\"bounds\">\n<h2>Bounds</h2>\n")?;
     write_part(report.asked.line.upper, out)?;
     let Some(found) = report.found else {
-        write_counted(alloc, report.system, report.counted, out)?;
+        write_counted(alloc, report.system, report.counted.as_ref(), out)?;
         return Ok(out.write_all(b"</section>\n")?);
     };
     write_found(alloc, report.system, found, out)?;

@@ -1,6 +1,6 @@
 //! What stands above the sections of a page.
 
-use crate::pieces::{Escaped, Piece, write_pieces};
+use crate::pieces::{Escaped, Piece, write_pieces, write_text};
 use crate::report::{Report, mode_name};
 use crate::style::STYLE;
 use cli_requests::VERSION;
@@ -58,7 +58,7 @@ fn write_part<O: Write>(upper: Option<u8>, out: &mut O) -> io::Result<()> {
 fn write_result<O: Write>(report: &Report<'_>, out: &mut O) -> io::Result<()> {
     match report.found {
         Some(found) => write_outcome(found.bounds.outcome, out),
-        None => write_count(report.counted, out),
+        None => write_count(report.counted.as_ref(), out),
     }
 }
 
@@ -72,11 +72,11 @@ pub(crate) fn write_heading<O: Write>(report: &Report<'_>, out: &mut O) -> io::R
             Piece::Own("</h1>\n<p>Programs <b>"),
             Piece::Text(report.asked.request.asm),
             Piece::Own("</b>, mode <b>"),
-            Piece::Text(mode_name(report)),
-            Piece::Own("</b>"),
         ],
         out,
     )?;
+    write_text(mode_name(report).as_bytes(), out)?;
+    out.write_all(b"</b>")?;
     write_part(report.asked.line.upper, out)?;
     write_pieces(
         &[

@@ -109,14 +109,15 @@ pub fn write_report<'v, O: Write>(
     let found = findings_of(alloc, system, mode, rules, bounds)?;
     let counted = counted_behind(alloc, system, mode, rules, found.bounds.outcome)?;
     let verdict = verdict_of(alloc, system, &found, asked)?;
+    let found = Some(found);
     let report = Report {
         texts,
         whole,
         system,
         mode,
         rules,
-        found: Some(&found),
-        counted: counted.as_ref(),
+        found: &found,
+        counted: &counted,
         asked,
     };
     write_page(alloc, &report, out)?;
@@ -138,14 +139,15 @@ pub fn write_counted_report<'v, O: Write>(
     out: &mut O,
 ) -> Result<Verdict<'v>, RunFault> {
     let verdict = verdict_of_count(alloc, system, counted.as_ref(), asked)?;
+    let unsearched: Option<Findings> = None;
     let report = Report {
         texts,
         whole,
         system,
         mode,
         rules,
-        found: None,
-        counted: counted.as_ref(),
+        found: &unsearched,
+        counted: &counted,
         asked,
     };
     write_page(alloc, &report, out)?;

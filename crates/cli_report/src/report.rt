@@ -19,10 +19,10 @@ pub(crate) struct Report<'r> {
     pub(crate) mode: ModeId,
     pub(crate) rules: &'r [ArrivalRule],
     /// What a search has found; None where it's counted in its place.
-    pub(crate) found: Option<&'r Findings>,
+    pub(crate) found: &'r Option<Findings>,
     /// What is counted: in place of a search, or behind one that stopped before its end. None where
     /// it needs too many nodes, or the search has come to its end.
-    pub(crate) counted: Option<&'r Counted>,
+    pub(crate) counted: &'r Option<Counted>,
     pub(crate) asked: BoundsAsked<'r>,
 }
 
