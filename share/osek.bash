@@ -14,7 +14,7 @@ _osek_options() {
     class) echo '--help --in --explain' ;;
     show) echo '--help --in --explain' ;;
     bounds) echo '--help --in --explain --rules --apart --jitter --least --never --analysis --witness --into --witnesses --states --longest --upper --csv --json --limit --no-loss --no-refusal --progress' ;;
-    report) echo '--help --in --explain --output --rules --apart --jitter --least --never --states --longest --limit --no-loss --no-refusal --progress' ;;
+    report) echo '--help --in --explain --output --rules --apart --jitter --least --never --analysis --states --longest --upper --limit --no-loss --no-refusal --progress' ;;
     make) echo '--help --output --oil' ;;
     import) echo '--help --work --bend' ;;
   esac

@@ -73,8 +73,13 @@ fn write_answer<'q, O: Write, E: Write>(
     }
 }
 
+/// Whether a denial stands in place of what was asked for.
+fn is_denied(verdict: &Verdict<'_>) -> bool {
+    matches!(verdict, Verdict::Denied(..))
+}
+
 /// Writes the answer to a question to `out`. A page is made first, and stays there where a line
-/// names a file for it.
+/// names a file for it. A denial in its place is written in any case.
 fn write_where<'q, O: Write, E: Write>(
     alloc: Global,
     texts: &Texts,
@@ -94,7 +99,10 @@ fn write_where<'q, O: Write, E: Write>(
         Err(RunFault::Write) => return Err(RunFault::Memory),
         Err(fault) => return Err(fault),
     };
-    if asked.output.is_none() {
+    if is_denied(&verdict) {
+        out.write_all(page)?;
+        page.clear();
+    } else if asked.output.is_none() {
         out.write_all(page)?;
     }
     Ok(verdict)

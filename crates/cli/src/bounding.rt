@@ -4,18 +4,19 @@
 ghost use Rattle.osek_base.specs.Separable.{Separable};
 
 use analysis_bounds::{UpperAnalysis, analyse_upper};
+use arrival_rules::ArrivalRule;
 use cli_answers::{StoredRun, Texts, Verdict, system_of, write_denial};
-use cli_report::write_report;
+use cli_report::{write_counted_report, write_report};
 use cli_requests::Rules;
 use cli_tables::{
-    BoundsAsked, SearchWatch, all_rules, arriving_fault, count, counted_of, mode_id,
+    BoundsAsked, Counted, SearchWatch, all_rules, arriving_fault, count, counted_of, mode_id,
     unknown_figure, write_analysed, write_found,
 };
-use osek_base::System;
+use osek_base::{ModeId, System};
 use partition_check::upper_only;
 use partition_isolation::check_isolation;
 use search_bounds::{UpperBounds, find_bounds, find_upper_bounds};
-use search_nodes::Extent;
+use search_nodes::{Bounds, Extent};
 use std::alloc::{AllocError, Global};
 use std::io::Write;
 use tracer::RunFault;
@@ -48,6 +49,75 @@ fn unknown_above<'v>(
     Ok(unknown_limit(&part, times))
 }
 
+/// Writes what is counted of a system, or of its upper part by itself, which `system` then is and
+/// not `whole`: as tables or as a page.
+fn write_told<'v, O: Write>(
+    alloc: Global,
+    texts: &Texts,
+    whole: &System,
+    system: &System,
+    mode: ModeId,
+    arriving: &[ArrivalRule],
+    told: Option<Counted>,
+    asked: BoundsAsked<'v>,
+    out: &mut O,
+) -> Result<Verdict<'v>, RunFault> {
+    match asked.line.page {
+        Some(_) => write_counted_report(
+            alloc, texts, whole, system, mode, arriving, told, asked, out,
+        ),
+        None => write_analysed(alloc, system, told.as_ref(), asked, out),
+    }
+}
+
+/// Writes what a search has found of a system, or of its upper part by itself, which `system` then
+/// is and not `whole`: as tables or as a page.
+fn write_bounds<'v, O: Write>(
+    alloc: Global,
+    texts: &Texts,
+    whole: &System,
+    system: &System,
+    mode: ModeId,
+    arriving: &[ArrivalRule],
+    bounds: Bounds,
+    asked: BoundsAsked<'v>,
+    runs: &mut Vec<StoredRun>,
+    out: &mut O,
+) -> Result<Verdict<'v>, RunFault> {
+    match asked.line.page {
+        Some(_) => write_report(
+            alloc, texts, whole, system, mode, arriving, bounds, asked, out,
+        ),
+        None => write_found(alloc, system, mode, arriving, bounds, asked, runs, out),
+    }
+}
+
+/// Writes what is counted of the part from a priority upward by itself.
+fn write_upper_count<'v, O: Write>(
+    alloc: Global,
+    texts: &Texts,
+    system: &System,
+    priority: u8,
+    mode: ModeId,
+    arriving: &[ArrivalRule],
+    asked: BoundsAsked<'v>,
+    out: &mut O,
+) -> Result<Verdict<'v>, RunFault>
+    requires { Separable system.now priority }
+{
+    match analyse_upper(alloc, system, priority, mode, arriving)? {
+        Ok(UpperAnalysis { part, analysis }) => {
+            let told = counted_of(alloc, &part, arriving, Ok(analysis))?;
+            write_told(
+                alloc, texts, system, &part, mode, arriving, told, asked, out,
+            )
+        }
+        Err(_) => write_told(
+            alloc, texts, system, system, mode, arriving, None, asked, out,
+        ),
+    }
+}
+
 /// Writes the bounds of the part from a priority upward by itself, or the denial.
 fn write_upper<'v, O: Write, E: Write>(
     alloc: Global,
@@ -69,21 +139,17 @@ fn write_upper<'v, O: Write, E: Write>(
     let mode = mode_id(alloc, texts, system, asked.line.mode)?;
     let arriving = all_rules(alloc, system, asked.said)?;
     if asked.line.is_analysed {
-        return match analyse_upper(alloc, system, priority, mode, &arriving)? {
-            Ok(UpperAnalysis { part, analysis }) => {
-                let told = counted_of(alloc, &part, &arriving, Ok(analysis))?;
-                write_analysed(alloc, &part, told.as_ref(), asked, out)
-            }
-            Err(_) => write_analysed(alloc, system, None, asked, out),
-        };
+        return write_upper_count(alloc, texts, system, priority, mode, &arriving, asked, out);
     }
     let extent = extent_of(rules);
     let found = find_upper_bounds(alloc, system, priority, mode, &arriving, extent, watch)?;
     let UpperBounds { part, bounds } = found;
-    write_found(alloc, &part, mode, &arriving, bounds, asked, runs, out)
+    write_bounds(
+        alloc, texts, system, &part, mode, &arriving, bounds, asked, runs, out,
+    )
 }
 
-/// Writes the bounds of all runs in a mode, as tables or as a page.
+/// Writes the bounds of all runs in a mode.
 fn write_whole<'v, O: Write, E: Write>(
     alloc: Global,
     texts: &Texts,
@@ -101,14 +167,15 @@ fn write_whole<'v, O: Write, E: Write>(
     let arriving = all_rules(alloc, system, asked.said)?;
     if asked.line.is_analysed {
         let told = count(alloc, system, mode, &arriving)?;
-        return write_analysed(alloc, system, told.as_ref(), asked, out);
+        return write_told(
+            alloc, texts, system, system, mode, &arriving, told, asked, out,
+        );
     }
     let extent = extent_of(rules);
     let found = find_bounds(alloc, system, mode, &arriving, extent, watch)?;
-    match asked.line.page {
-        Some(_) => write_report(alloc, texts, system, mode, &arriving, found, asked, out),
-        None => write_found(alloc, system, mode, &arriving, found, asked, runs, out),
-    }
+    write_bounds(
+        alloc, texts, system, system, mode, &arriving, found, asked, runs, out,
+    )
 }
 
 /// Writes the bounds that are asked for, or what names nothing of the system.

@@ -1,8 +1,8 @@
-//! The bounds of all figures, with what they promise.
+//! The bounds of all figures, found or counted, with what they promise.
 
 use crate::pieces::{Escaped, Piece, write_list, write_pieces, write_text};
 use crate::report::Report;
-use cli_tables::{Cell, cell, write_remarks, write_services};
+use cli_tables::{Cell, Counted, cell, write_remarks, write_services};
 use osek_base::System;
 use search::Outcome;
 use search_witnesses::Findings;
@@ -20,16 +20,41 @@ const DECIDED: &str = "<p>Ticks, or numbers of things, of all runs in which inte
 <b class=\"unbounded\">unbounded</b>: some run shows as much as one likes.</p>
 ";
 
+const COUNTED: &str = "<p>Ticks, or numbers of things, of all runs in which interrupts come as
+<a href=\"#interrupts\">is said</a>, for programs that take exactly these ticks. They are counted
+and not searched, so often above what any run shows.
+<b class=\"bound\">&lt;=7</b>: none shows more.
+<b class=\"above\">above</b>: nothing is promised.</p>
+";
+
+const UNCOUNTED: &str = "<p>So many places of programs aren't counted: <b>nothing is promised of
+every run</b>.</p>
+";
+
 /// Writes what a figure stands for. An error is a failed write.
 fn write_meaning<O: Write>(outcome: Outcome, out: &mut O) -> io::Result<()> {
     match outcome {
         Outcome::Decided(_) => out.write_all(DECIDED.as_bytes()),
         Outcome::Undecided(_, progress) => writeln!(
             out,
-            "<p>The search stopped before its end, so <b>nothing is promised of every run</b>. What
+            "<p>The search stopped before its end, so <b>it promises nothing of every run</b>. What
 follows holds of runs of at most {} ticks.</p>",
             progress.levels
         ),
+    }
+}
+
+/// Writes what bounds of an upper part hold of; nothing where they are of the whole system. An
+/// error is a failed write.
+fn write_part<O: Write>(upper: Option<u8>, out: &mut O) -> io::Result<()> {
+    match upper {
+        Some(priority) => writeln!(
+            out,
+            "<p>Of the part from priority {priority} upward by itself. What is told of it holds in
+this system, and in each other one that is the same from {priority} upward and whose
+<a href=\"#cuts\">cut</a> there is accepted, whatever its lower tasks do.</p>"
+        ),
+        None => Ok(()),
     }
 }
 
@@ -142,15 +167,14 @@ fn has_figures(outcome: Outcome) -> bool {
     }
 }
 
-/// Writes the bounds of all figures, and what they mean.
-pub(crate) fn write_bounds<O: Write>(
+/// Writes the bounds that a search has found, and what they mean.
+fn write_found<O: Write>(
     alloc: Global,
-    report: &Report<'_>,
+    system: &System,
+    found: &Findings,
     out: &mut O,
 ) -> Result<(), RunFault> {
-    let (system, found) = (report.system, report.found);
     let outcome = found.bounds.outcome;
-    out.write_all(b"<section id=\"bounds\">\n<h2>Bounds</h2>\n")?;
     write_meaning(outcome, out)?;
     if has_figures(outcome) {
         write_kinds(alloc, system, found, out)?;
@@ -161,6 +185,55 @@ pub(crate) fn write_bounds<O: Write>(
     if write_remarks(system, found, &mut remarks).is_err() {
         return Err(RunFault::Memory);
     }
-    write_list(&remarks, out)?;
+    Ok(write_list(&remarks, out)?)
+}
+
+/// Writes the bounds that are counted, and of each level how; where it needs too many nodes, that
+/// nothing is promised.
+fn write_counted<O: Write>(
+    alloc: Global,
+    system: &System,
+    counted: Option<&Counted>,
+    out: &mut O,
+) -> Result<(), RunFault> {
+    let Some(counted) = counted else {
+        return Ok(out.write_all(UNCOUNTED.as_bytes())?);
+    };
+    out.write_all(COUNTED.as_bytes())?;
+    write_kinds(alloc, system, &counted.found, out)?;
+    write_failing(system, &counted.found, out)?;
+    Ok(write_list(&counted.levels, out)?)
+}
+
+/// Writes the bounds that are counted behind those of a search that stopped before its end.
+fn write_behind<O: Write>(
+    alloc: Global,
+    system: &System,
+    counted: &Counted,
+    out: &mut O,
+) -> Result<(), RunFault> {
+    out.write_all(b"<section id=\"counted\">\n<h2>Counted, for ever</h2>\n")?;
+    write_counted(alloc, system, Some(counted), out)?;
     Ok(out.write_all(b"</section>\n")?)
+}
+
+/// Writes the bounds of all figures, and what they mean: those that a search has found, or that are
+/// counted in its place. Behind a search that stopped before its end stand those that are counted.
+pub(crate) fn write_bounds<O: Write>(
+    alloc: Global,
+    report: &Report<'_>,
+    out: &mut O,
+) -> Result<(), RunFault> {
+    out.write_all(b"<section id=\"bounds\">\n<h2>Bounds</h2>\n")?;
+    write_part(report.asked.line.upper, out)?;
+    let Some(found) = report.found else {
+        write_counted(alloc, report.system, report.counted.as_ref(), out)?;
+        return Ok(out.write_all(b"</section>\n")?);
+    };
+    write_found(alloc, report.system, found, out)?;
+    out.write_all(b"</section>\n")?;
+    match report.counted {
+        Some(counted) => write_behind(alloc, report.system, counted, out),
+        None => Ok(()),
+    }
 }

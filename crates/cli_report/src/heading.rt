@@ -1,10 +1,10 @@
 //! What stands above the sections of a page.
 
-use crate::pieces::{Escaped, Piece, write_pieces};
+use crate::pieces::{Escaped, Piece, write_pieces, write_text};
 use crate::report::{Report, mode_name};
 use crate::style::STYLE;
 use cli_requests::VERSION;
-use cli_tables::write_outcome;
+use cli_tables::{write_count, write_outcome};
 use std::io::{self, Write};
 
 /// What all pages begin with. They may load nothing.
@@ -44,6 +44,24 @@ pub(crate) fn write_head<O: Write>(report: &Report<'_>, out: &mut O) -> io::Resu
     )
 }
 
+/// Writes of which part the bounds are, where they aren't of the whole system. An error is a failed
+/// write.
+fn write_part<O: Write>(upper: Option<u8>, out: &mut O) -> io::Result<()> {
+    match upper {
+        Some(priority) => write!(out, ", from priority <b>{priority}</b> upward"),
+        None => Ok(()),
+    }
+}
+
+/// Writes whether the search has come to its end, or how many nodes were looked at in its place. An
+/// error is a failed write.
+fn write_result<O: Write>(report: &Report<'_>, out: &mut O) -> io::Result<()> {
+    match report.found {
+        Some(found) => write_outcome(found.bounds.outcome, out),
+        None => write_count(report.counted.as_ref(), out),
+    }
+}
+
 /// Writes of what the page is, whether the search has come to its end, and links to the sections.
 /// An error is a failed write.
 pub(crate) fn write_heading<O: Write>(report: &Report<'_>, out: &mut O) -> io::Result<()> {
@@ -54,13 +72,20 @@ pub(crate) fn write_heading<O: Write>(report: &Report<'_>, out: &mut O) -> io::R
             Piece::Own("</h1>\n<p>Programs <b>"),
             Piece::Text(report.asked.request.asm),
             Piece::Own("</b>, mode <b>"),
-            Piece::Text(mode_name(report)),
-            Piece::Own("</b>, osek "),
+        ],
+        out,
+    )?;
+    write_text(mode_name(report).as_bytes(), out)?;
+    out.write_all(b"</b>")?;
+    write_part(report.asked.line.upper, out)?;
+    write_pieces(
+        &[
+            Piece::Own(", osek "),
             Piece::Own(VERSION),
             Piece::Own("</p>\n<p class=\"outcome\">All runs: "),
         ],
         out,
     )?;
-    write_outcome(report.found.bounds.outcome, &mut Escaped::new(&mut *out))?;
+    write_result(report, &mut Escaped::new(&mut *out))?;
     out.write_all(NAVIGATION.as_bytes())
 }

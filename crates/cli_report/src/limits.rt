@@ -1,9 +1,8 @@
 //! The limits that are said, and whether the bounds keep them.
 
 use crate::pieces::{Piece, write_list, write_pieces};
-use crate::report::Report;
+use crate::report::{Report, promised};
 use cli_tables::broken_bounds;
-use search::Outcome;
 use std::alloc::Global;
 use std::io::{self, Write};
 use tracer::RunFault;
@@ -33,10 +32,10 @@ fn write_row<O: Write>(
     out: &mut O,
 ) -> Result<(), RunFault> {
     write_limit(limits, out)?;
-    if let Outcome::Undecided(..) = report.found.bounds.outcome {
+    let Some(found) = promised(report) else {
         return Ok(out.write_all(b"<td>undecided</td></tr>\n")?);
-    }
-    let broken = broken_bounds(alloc, report.system, report.found, limits)?;
+    };
+    let broken = broken_bounds(alloc, report.system, found, limits)?;
     if broken.is_empty() {
         return Ok(out.write_all(b"<td class=\"kept\">kept</td></tr>\n")?);
     }

@@ -12,7 +12,7 @@ use crate::system::write_system;
 use crate::worst_cases::write_worst_cases;
 use arrival_rules::ArrivalRule;
 use cli_answers::{Texts, Verdict};
-use cli_tables::{BoundsAsked, verdict_of};
+use cli_tables::{BoundsAsked, Counted, count, verdict_of, verdict_of_count};
 use osek_base::{ModeId, System};
 use search::Outcome;
 use search_nodes::Bounds;
@@ -35,6 +35,21 @@ fn findings_of(
     }
 }
 
+/// What is counted behind a search that stopped before its end; None where it has come to it, or
+/// where counting needs too many nodes.
+fn counted_behind(
+    alloc: Global,
+    system: &System,
+    mode: ModeId,
+    rules: &[ArrivalRule],
+    outcome: Outcome,
+) -> Result<Option<Counted>, RunFault> {
+    match outcome {
+        Outcome::Decided(_) => Ok(None),
+        Outcome::Undecided(..) => count(alloc, system, mode, rules),
+    }
+}
+
 /// Writes what is told of all runs: bounds, limits, and how interrupts come.
 fn write_all_runs<O: Write>(
     alloc: Global,
@@ -54,7 +69,7 @@ fn write_sections<O: Write>(
 ) -> Result<(), RunFault> {
     write_all_runs(alloc, report, out)?;
     write_worst_cases(alloc, report, out)?;
-    write_cuts(alloc, report.system, out)?;
+    write_cuts(alloc, report.whole, out)?;
     write_system(alloc, report, out)
 }
 
@@ -76,12 +91,14 @@ fn write_page<O: Write>(alloc: Global, report: &Report<'_>, out: &mut O) -> Resu
     Ok(write_end(out)?)
 }
 
-/// Writes the page of what a search for bounds in a mode, by rules of interrupts, has found of a system.
-/// The verdict tells, as that of the bounds themselves, whether it has come to its end and which
-/// limits break.
+/// Writes the page of what a search for bounds in a mode, by rules of interrupts, has found of a
+/// system, or of its upper part by itself, which `system` then is and not `whole`. Where it stopped
+/// before its end, what is counted stands behind. The verdict tells, as that of the bounds
+/// themselves, whether it has come to its end and which limits break.
 pub fn write_report<'v, O: Write>(
     alloc: Global,
     texts: &Texts,
+    whole: &System,
     system: &System,
     mode: ModeId,
     rules: &[ArrivalRule],
@@ -90,13 +107,47 @@ pub fn write_report<'v, O: Write>(
     out: &mut O,
 ) -> Result<Verdict<'v>, RunFault> {
     let found = findings_of(alloc, system, mode, rules, bounds)?;
+    let counted = counted_behind(alloc, system, mode, rules, found.bounds.outcome)?;
     let verdict = verdict_of(alloc, system, &found, asked)?;
+    let found = Some(found);
     let report = Report {
         texts,
+        whole,
         system,
         mode,
         rules,
         found: &found,
+        counted: &counted,
+        asked,
+    };
+    write_page(alloc, &report, out)?;
+    Ok(verdict)
+}
+
+/// Writes the page of what is counted in a mode, by rules of interrupts, of a system, or of its
+/// upper part by itself, which `system` then is and not `whole`; or that it needs too many nodes.
+/// The verdict tells, as that of the bounds themselves, which limits break.
+pub fn write_counted_report<'v, O: Write>(
+    alloc: Global,
+    texts: &Texts,
+    whole: &System,
+    system: &System,
+    mode: ModeId,
+    rules: &[ArrivalRule],
+    counted: Option<Counted>,
+    asked: BoundsAsked<'v>,
+    out: &mut O,
+) -> Result<Verdict<'v>, RunFault> {
+    let verdict = verdict_of_count(alloc, system, counted.as_ref(), asked)?;
+    let unsearched: Option<Findings> = None;
+    let report = Report {
+        texts,
+        whole,
+        system,
+        mode,
+        rules,
+        found: &unsearched,
+        counted: &counted,
         asked,
     };
     write_page(alloc, &report, out)?;

@@ -8,7 +8,7 @@ use osek_base::MAX_TICKS;
 use std::alloc::Global;
 use std::io::{self, Write};
 use std::str;
-use tracer::{RunFault, StdSink, TraceInput, run};
+use tracer::{RunFault, StdSink, TraceInput, run, run_upper};
 use view_runs::{Picture, Progress, RunInput, Showing, write_timeline};
 
 /// How many ticks a picture has at most: of what lasts longer the end is drawn.
@@ -113,7 +113,7 @@ fn write_svg<O: Write>(svg: &str, is_first: bool, out: &mut O) -> io::Result<()>
     }
 }
 
-/// Writes the trace of some ticks of a run, to be opened.
+/// Writes the trace of some ticks of a run, to be opened; of an upper part its view.
 fn write_trace<O: Write>(
     alloc: Global,
     report: &Report<'_>,
@@ -127,7 +127,11 @@ fn write_trace<O: Write>(
     let input = TraceInput::new(&texts.oil, &texts.asm, irqs, mode_name(report), ticks);
     out.write_all(b"<details><summary>Trace</summary><pre class=\"trace\">")?;
     let lines = LinesFrom::new(Escaped::new(&mut *out), window.from);
-    run(alloc, &input, &mut StdSink::new(lines))?;
+    let mut sink = StdSink::new(lines);
+    match report.asked.line.upper {
+        Some(priority) => run_upper(alloc, &input, priority, true, &mut sink)?,
+        None => run(alloc, &input, &mut sink)?,
+    }
     Ok(out.write_all(b"</pre></details>\n")?)
 }
 

@@ -229,6 +229,12 @@ cuts, pictures of the worst cases, and the system. Statuses are as of `bounds`.
 Example, of the folder engine and its rules:
   osek report --in engine -o report.html
 
+Counted, where a search takes too long or comes to no end:
+  osek report --in engine --analysis -o report.html
+
+Of the part from priority 5 upward by itself:
+  osek report --in engine --upper 5 -o report.html
+
 Held to limits:
   osek report system.oil programs.asm Normal --apart Crank=20 --limit Inject=30 --no-loss -o report.html";
 

@@ -86,6 +86,12 @@ const NO_SEARCH: Exclusion = Exclusion {
     others: &["states", "longest", "witness", "witnesses"],
 };
 
+/// The same of a page, which is of no one run.
+const NO_STATES: Exclusion = Exclusion {
+    name: "analysis",
+    others: &["states", "longest"],
+};
+
 fn trace() -> Subcommand {
     Subcommand {
         name: "trace",
@@ -248,15 +254,17 @@ fn report() -> Subcommand {
             ],
             &ARRIVING,
             &[
+                Argument::Flag("analysis", help::ANALYSIS),
                 STATES,
                 LONGEST,
+                Argument::Option("upper", "P", PRIORITY, help::BOUNDS_UPPER),
                 Argument::Option("limit", "NAME=TICKS", Takes::Texts, help::BOUNDS_LIMIT),
                 Argument::Flag("no-loss", help::BOUNDS_NO_LOSS),
                 Argument::Flag("no-refusal", help::BOUNDS_NO_REFUSAL),
                 PROGRESS,
             ],
         ],
-        exclusions: &[],
+        exclusions: &[NO_STATES],
     }
 }
 
